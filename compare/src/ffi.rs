@@ -1,0 +1,110 @@
+//! The proved code, linked as a static library: the exports of crates/hiskurdo.
+//!
+//! Every type here is plain numbers. Nothing checks these declarations against
+//! crates/hiskurdo/src/lib.rt, so the two are kept side by side.
+
+/// An answer in numbers: its own number, then its values, 0 where it has fewer than five.
+#[repr(C)]
+#[derive(Clone, Copy, PartialEq, Eq, Debug, Default)]
+pub struct Told {
+    pub number: u64,
+    pub a: u64,
+    pub b: u64,
+    pub c: u64,
+    pub d: u64,
+    pub e: u64,
+}
+
+/// An allocator: `offers` is 1 where `next` is offered, else 0.
+#[repr(C)]
+#[derive(Clone, Copy, PartialEq, Eq, Debug, Default)]
+pub struct IdsNumbers {
+    pub run: u64,
+    pub next: u32,
+    pub offers: u8,
+}
+
+#[repr(C)]
+#[derive(Clone, Copy, PartialEq, Eq, Debug, Default)]
+pub struct AllocatedNumbers {
+    pub ids: IdsNumbers,
+    pub answer: Told,
+}
+
+/// A timer's spec: clock 1 is `AfterBoot`, any other `AtPersistentTime`.
+#[repr(C)]
+#[derive(Clone, Copy, PartialEq, Eq, Debug, Default)]
+pub struct SpecNumbers {
+    pub deadline: u64,
+    pub clock: u8,
+}
+
+/// A record with the fields of a journal entry, and where its body starts.
+/// `m` is a body's length, a CRC (its low 32 bits) or an armed time; `d` a version or a length (their low 16 bits) or a deadline.
+#[repr(C)]
+#[derive(Clone, Copy, PartialEq, Eq, Debug, Default)]
+pub struct RecordNumbers {
+    pub kind: u8,
+    pub clock: u8,
+    pub a: u16,
+    pub s: u32,
+    pub d: u64,
+    pub m: u64,
+    pub start: u64,
+}
+
+/// A cursor. `position` counts the cases of `Position` from 0; the fields that a position does not hold are 0.
+#[repr(C)]
+#[derive(Clone, Copy, PartialEq, Eq, Debug, Default)]
+pub struct CursorNumbers {
+    pub ids: IdsNumbers,
+    pub deadline: u64,
+    pub armed_at: u64,
+    pub seq: u32,
+    pub input_crc: u32,
+    pub kind: u16,
+    pub input_len: u16,
+    pub position: u8,
+    pub clock_kind: u8,
+    pub error: u8,
+}
+
+#[repr(C)]
+#[derive(Clone, Copy, PartialEq, Eq, Debug, Default)]
+pub struct AdvancedNumbers {
+    pub cursor: CursorNumbers,
+    pub answer: Told,
+}
+
+unsafe extern "C" {
+    pub safe fn hiskurdo_run_successor(run: u64) -> Told;
+    pub safe fn hiskurdo_seq_successor(seq: u32) -> Told;
+    pub safe fn hiskurdo_ids_for_run(run: u64) -> IdsNumbers;
+    /// `committed` 0: nothing was committed, and `last` is not read.
+    pub safe fn hiskurdo_ids_resume(run: u64, committed: u8, last: u32) -> IdsNumbers;
+    pub safe fn hiskurdo_ids_run(ids: IdsNumbers) -> u64;
+    pub safe fn hiskurdo_ids_peek(ids: IdsNumbers) -> Told;
+    pub safe fn hiskurdo_ids_allocate(ids: IdsNumbers) -> AllocatedNumbers;
+
+    pub safe fn hiskurdo_spec_clock_kind(spec: SpecNumbers) -> u8;
+    pub safe fn hiskurdo_spec_deadline(spec: SpecNumbers) -> u64;
+    pub safe fn hiskurdo_spec_rearmed_at(spec: SpecNumbers, recorded: u64, now: u64) -> u64;
+    pub safe fn hiskurdo_spec_recorded(clock: u8, deadline: u64) -> Told;
+    /// `capability` 0 is `BootOnly`, any other `Persistent`.
+    pub safe fn hiskurdo_admits(capability: u8, spec: SpecNumbers) -> Told;
+    pub safe fn hiskurdo_timer_arm(spec: SpecNumbers, capability: u8, now: u64) -> Told;
+    pub safe fn hiskurdo_timer_evaluate(spec: SpecNumbers, armed_at: u64, reading: u64) -> Told;
+
+    pub safe fn hiskurdo_record_kind(record: RecordNumbers) -> u8;
+
+    pub safe fn hiskurdo_cursor_new(run: u64) -> CursorNumbers;
+    pub safe fn hiskurdo_cursor_run(cursor: CursorNumbers) -> u64;
+    pub safe fn hiskurdo_cursor_position(cursor: CursorNumbers) -> Told;
+    /// 1 where the position is terminal, else 0.
+    pub safe fn hiskurdo_cursor_is_terminal(cursor: CursorNumbers) -> u8;
+    pub safe fn hiskurdo_cursor_pending(cursor: CursorNumbers) -> Told;
+    pub safe fn hiskurdo_cursor_pending_timer(cursor: CursorNumbers) -> Told;
+    pub safe fn hiskurdo_cursor_next_seq(cursor: CursorNumbers) -> Told;
+    pub safe fn hiskurdo_cursor_next_effect_id(cursor: CursorNumbers) -> Told;
+    pub safe fn hiskurdo_cursor_advance(cursor: CursorNumbers, record: RecordNumbers) -> AdvancedNumbers;
+}

@@ -1,0 +1,3 @@
+pub mod Specs
+pub mod Timers
+pub mod Told

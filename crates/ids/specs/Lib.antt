@@ -1,0 +1,3 @@
+pub mod Ids
+pub mod Allocator
+pub mod Told
