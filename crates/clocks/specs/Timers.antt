@@ -21,11 +21,14 @@ use Rattle.clocks.specs.Specs.{specClock, specDeadline, admitsClock}
 abbrev pub admission : ClockCapability → TimerSpec → AdmitsResult
 admission capability spec = cond (admitsClock capability (specClock spec)) AdmitsResult.Ok (AdmitsResult.Err (error 25))
 
+-- a timer for that spec and reading, or the refusal
+abbrev pub armedWhere : TimerSpec → ℕ → AdmitsResult → TimerResult
+armedWhere spec now AdmitsResult.Ok = TimerResult.Ok (record { spec = spec; «armed_at» = now })
+armedWhere spec now (AdmitsResult.Err x) = TimerResult.Err x
+
 -- "`Timer::arm` refuses 25"
 abbrev pub armed : TimerSpec → ClockCapability → ℕ → TimerResult
-armed spec capability now =
-    cond (admitsClock capability (specClock spec)) (TimerResult.Ok (record { spec = spec; «armed_at» = now }))
-    (TimerResult.Err (error 25))
+armed spec capability now = armedWhere spec now (admission capability spec)
 
 -- elapsed where what was reached is at least the goal; "else what is lacking remains"
 abbrev pub lackingOf : ℕ → ℕ → Deadline

@@ -1,20 +1,14 @@
+-- `lacking` meets its contract: the test is that of the rule.
+-- Assumes nothing.
 use borrow.Author.Needs.{needs}
+use borrow.Author.Tests.{le-leb, lt-leb}
 use Rattle.clocks.proofs.lacking.Statement.{statement}
 use Rattle.clocks.proofs.lacking.Tie as tie
-use Rattle.clocks.proofs.lacking.Reads as reads
-use Rattle.clocks.proofs.lacking.Lts as lts
-
--- src/lib.rt:180:20
-sub-t5 : tie.Need-sub-t5
-sub-t5 c = search needs
-
--- src/lib.rt:173:1
-returns : tie.Need-returns
-returns c = ?
-
--- src/lib.rt:173:1
-returns-2 : tie.Need-returns-2
-returns-2 c = ?
 
 pub lacking-spec : {M : Type 1} → statement M
-lacking-spec = tie.close (tie.spec sub-t5 returns returns-2)
+lacking-spec =
+    tie.close
+    (tie.spec
+    (λ c. search needs)
+    (λ c. rw (le-leb _ _ (c .if1 .taken)))
+    (λ c. rw (lt-leb _ _ (c .if1 .left))))

@@ -1,37 +1,24 @@
+-- `ClockCapability::admits` meets its contract: every pair of capability and spec is named.
+-- Assumes nothing.
 use borrow.Author.Needs.{needs}
+use mathlib.Core.Path.{refl}
+use Rattle.errors.proofs.Arms.{by-arm}
+use Rattle.clocks.specs.declared.ClockCapability.{ClockCapability}
+use Rattle.clocks.specs.declared.ClockCapability.the-variants as ClockCapability
+use Rattle.clocks.specs.Timers.{admission}
+use Rattle.clocks.proofs.Laws.{admits-boot}
 use Rattle.clocks.proofs.ClockCapability.admits.Statement.{statement}
 use Rattle.clocks.proofs.ClockCapability.admits.Tie as tie
-use Rattle.clocks.proofs.ClockCapability.admits.Reads as reads
-use Rattle.clocks.proofs.ClockCapability.admits.Lts as lts
-
--- src/lib.rt:97:50
-enum-told : tie.Need-enum-told
-enum-told c = search needs
-
--- src/lib.rt:98:59
-enum-told-2 : tie.Need-enum-told-2
-enum-told-2 c = search needs
-
--- src/lib.rt:99:64
-enum-told-3 : tie.Need-enum-told-3
-enum-told-3 c = search needs
-
--- src/lib.rt:100:48
-enum-told-4 : tie.Need-enum-told-4
-enum-told-4 c = search needs
-
--- src/lib.rt:93:5
-returns : tie.Need-returns
-returns c = ?
-
--- src/lib.rt:93:5
-returns-2 : tie.Need-returns-2
-returns-2 c = ?
-
--- src/lib.rt:93:5
-returns-3 : tie.Need-returns-3
-returns-3 c = search needs
 
 pub admits-spec : {M : Type 1} → statement M
 admits-spec =
-    tie.close (tie.spec enum-told enum-told-2 enum-told-3 enum-told-4 returns returns-2 returns-3)
+    tie.close
+    (tie.spec
+    (λ c. search needs)
+    (λ c. search needs)
+    (λ c. search needs)
+    (λ c. search needs)
+    (λ c. by-arm (admission (c .before .before .args .self)) (c .enum-told .given .1) (rw (admits-boot (c .before .before .args .self))))
+    (λ c. by-arm (λ (capability : ClockCapability). admission capability (c .before .before .before .before .args .spec)) (c .enum-told3 .given .1)
+    (by-arm (admission ClockCapability.BootOnly) (c .before .before .enum-told2 .given .1) refl))
+    (λ c. by-arm (λ (capability : ClockCapability). admission capability (c .before .before .before .before .args .spec)) (c .enum-told4 .given .1) refl))

@@ -1,46 +1,24 @@
+-- `Timer::evaluate` meets its contract: the armed time is looked at first, then what the spec holds against its deadline.
+-- Assumes nothing.
 use borrow.Author.Needs.{needs}
+use mathlib.Core.Path.{ap}
+use borrow.Author.Tests.{lt-ltb, le-ltb}
+use Rattle.errors.proofs.Arms.{by-arm}
+use Rattle.clocks.specs.declared.TimerSpec.{TimerSpec}
+use Rattle.clocks.specs.declared.DeadlineResult.the-variants as DeadlineResult
+use Rattle.clocks.specs.Specs.{specDeadline}
+use Rattle.clocks.specs.Timers.{lackingOf, reachedBy}
 use Rattle.clocks.proofs.Timer.evaluate.Statement.{statement}
 use Rattle.clocks.proofs.Timer.evaluate.Tie as tie
-use Rattle.clocks.proofs.Timer.evaluate.Reads as reads
-use Rattle.clocks.proofs.Timer.evaluate.Lts as lts
-use Rattle.clocks.proofs.lacking.Reads as lacking-reads
-
--- src/lib.rt:162:13
-returns : tie.Need-returns
-returns c = ?
-
--- src/lib.rt:166:36
-enum-known-spec : tie.Need-enum-known-spec
-enum-known-spec c = search needs
-
--- src/lib.rt:166:66
-lacking-requires : tie.Need-lacking-requires
-lacking-requires c κs = search needs
-
--- src/lib.rt:167:43
-enum-known-spec-2 : tie.Need-enum-known-spec-2
-enum-known-spec-2 c = search needs
-
--- src/lib.rt:167:75
-lacking-requires-2 : tie.Need-lacking-requires-2
-lacking-requires-2 c κs = search needs
-
--- src/lib.rt:157:5
-returns-2 : tie.Need-returns-2
-returns-2 c = ?
-
--- src/lib.rt:157:5
-returns-3 : tie.Need-returns-3
-returns-3 c = ?
 
 pub evaluate-spec : {M : Type 1} → statement M
 evaluate-spec =
     tie.close
     (tie.spec
-    returns
-    enum-known-spec
-    lacking-requires
-    enum-known-spec-2
-    lacking-requires-2
-    returns-2
-    returns-3)
+    (λ c. rw (lt-ltb _ _ (c .if1 .taken)))
+    (λ c. search needs)
+    (λ c κs. search needs)
+    (λ c. search needs)
+    (λ c κs. search needs)
+    (λ c. rw (le-ltb _ _ (c .before .before .before .before .if1 .left)) (by-arm (λ (spec : TimerSpec). DeadlineResult.Ok (lackingOf (specDeadline spec) (reachedBy spec (c .before .before .before .before .before .args .self .«armed_at») (c .before .before .before .before .before .args .reading)))) (c .before .before .spec .given .1) (ap DeadlineResult.Ok (c .lacking .ensures))))
+    (λ c. rw (le-ltb _ _ (c .before .before .before .before .if1 .left)) (by-arm (λ (spec : TimerSpec). DeadlineResult.Ok (lackingOf (specDeadline spec) (reachedBy spec (c .before .before .before .before .before .args .self .«armed_at») (c .before .before .before .before .before .args .reading)))) (c .before .before .spec2 .given .1) (ap DeadlineResult.Ok (c .lacking2 .ensures)))))

@@ -1,28 +1,20 @@
+-- `TimerSpec::rearmed_at` meets its contract: the test picks the smaller reading.
+-- Assumes nothing.
 use borrow.Author.Needs.{needs}
+use mathlib.Core.Path.{refl, sym}
+use native.Mathlib.Nat.{min-eq-left, min-eq-right, le-of-lt}
+use Rattle.errors.proofs.Arms.{by-arm}
+use Rattle.clocks.specs.declared.TimerSpec.{TimerSpec}
+use Rattle.clocks.specs.Specs.{rearmedAt}
 use Rattle.clocks.proofs.TimerSpec.rearmed_at.Statement.{statement}
 use Rattle.clocks.proofs.TimerSpec.rearmed_at.Tie as tie
-use Rattle.clocks.proofs.TimerSpec.rearmed_at.Reads as reads
-use Rattle.clocks.proofs.TimerSpec.rearmed_at.Lts as lts
-
--- src/lib.rt:54:20
-enum-told : tie.Need-enum-told
-enum-told c = search needs
-
--- src/lib.rt:60:59
-enum-told-2 : tie.Need-enum-told-2
-enum-told-2 c = search needs
-
--- src/lib.rt:49:5
-returns : tie.Need-returns
-returns c = ?
-
--- src/lib.rt:49:5
-returns-2 : tie.Need-returns-2
-returns-2 c = ?
-
--- src/lib.rt:49:5
-returns-3 : tie.Need-returns-3
-returns-3 c = search needs
 
 pub rearmed-at-spec : {M : Type 1} → statement M
-rearmed-at-spec = tie.close (tie.spec enum-told enum-told-2 returns returns-2 returns-3)
+rearmed-at-spec =
+    tie.close
+    (tie.spec
+    (λ c. search needs)
+    (λ c. search needs)
+    (λ c. by-arm (λ (spec : TimerSpec). rearmedAt spec (c .before .before .before .args .recorded) (c .before .before .before .args .now)) (c .before .enum-told .given .1) (sym (min-eq-right (le-of-lt (c .if1 .taken)))))
+    (λ c. by-arm (λ (spec : TimerSpec). rearmedAt spec (c .before .before .before .args .recorded) (c .before .before .before .args .now)) (c .before .enum-told .given .1) (sym (min-eq-left (c .if1 .left))))
+    (λ c. by-arm (λ (spec : TimerSpec). rearmedAt spec (c .before .before .args .recorded) (c .before .before .args .now)) (c .enum-told2 .given .1) (refl)))

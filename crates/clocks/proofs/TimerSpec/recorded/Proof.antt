@@ -1,19 +1,13 @@
+-- `TimerSpec::recorded` meets its contract: the two tests are those of the rule.
+-- Assumes nothing.
+use borrow.Author.Tests.{eq-eqb, ne-eqb}
 use Rattle.clocks.proofs.TimerSpec.recorded.Statement.{statement}
 use Rattle.clocks.proofs.TimerSpec.recorded.Tie as tie
-use Rattle.clocks.proofs.TimerSpec.recorded.Reads as reads
-use Rattle.clocks.proofs.TimerSpec.recorded.Lts as lts
-
--- src/lib.rt:70:13
-returns : tie.Need-returns
-returns c = ?
-
--- src/lib.rt:73:13
-returns-2 : tie.Need-returns-2
-returns-2 c = ?
-
--- src/lib.rt:65:5
-returns-3 : tie.Need-returns-3
-returns-3 c = ?
 
 pub recorded-spec : {M : Type 1} → statement M
-recorded-spec = tie.close (tie.spec returns returns-2 returns-3)
+recorded-spec =
+    tie.close
+    (tie.spec
+    (λ c. rw (eq-eqb _ _ (c .if1 .taken)))
+    (λ c. rw (ne-eqb _ _ (c .before .if1 .left), eq-eqb _ _ (c .if2 .taken)))
+    (λ c. rw (ne-eqb _ _ (c .before .if1 .left), ne-eqb _ _ (c .if2 .left))))

@@ -1,0 +1,180 @@
+//! Feeds the proved code and the Rust source it was ported from the same calls, and
+//! compares every answer and every reader's value after each call.
+
+mod both;
+mod calls;
+mod ending;
+mod exhaustive;
+#[rustfmt::skip]
+mod ffi;
+mod ids;
+mod long_runs;
+mod proved_side;
+mod random;
+mod records;
+mod rust_side;
+mod timers;
+mod values;
+mod vectors;
+
+use std::process::ExitCode;
+use std::time::Instant;
+
+use both::Both;
+
+const HELP: &str = "\
+Compares the proved code with the Rust source it was ported from, call by call.
+On the first difference: prints the calls and both answers, and exits with 1.
+
+compare                   all parts but the last, about a minute
+compare --deep            deeper and longer, and the end of numbering; up to half an hour
+compare --depth N         the depth of the exhaustive part
+compare --seed N          the seed of the random parts
+compare --vectors FOLDER  only writes FOLDER/stdin and FOLDER/stdout: a fixed sample of
+                          calls, and the answers of the Rust source
+compare --help            this text
+
+When it is built, HISKURDO_RUST names the folder with the Rust source and HISKURDO_LIB
+the folder with libhiskurdo.a; a relative one is taken from the root of the repository.";
+
+/// How much is compared.
+pub struct Settings {
+    pub seed: u64,
+    pub depth: u32,
+    pub random_timers: u64,
+    pub long_runs: u64,
+    deep: bool,
+}
+
+impl Settings {
+    fn usual() -> Settings {
+        Settings {
+            seed: 1,
+            depth: 8,
+            random_timers: 4_000_000,
+            long_runs: 2_000,
+            deep: false,
+        }
+    }
+
+    fn deep() -> Settings {
+        let usual = Settings::usual();
+        Settings {
+            depth: usual.depth + 1,
+            random_timers: 20 * usual.random_timers,
+            long_runs: 20 * usual.long_runs,
+            deep: true,
+            ..usual
+        }
+    }
+}
+
+/// One part of the comparison: what it compares, and how.
+struct Part {
+    what: &'static str,
+    run: fn(&Settings, &mut Both),
+    only_deep: bool,
+}
+
+const PARTS: [Part; 6] = [
+    usual("ids and allocators", ids::run),
+    usual("timers", timers::run),
+    usual("the calls of --vectors", vectors::run),
+    usual("cursors, every short sequence", exhaustive::run),
+    usual("cursors, long sequences at random", long_runs::run),
+    Part {
+        what: "cursors, the end of numbering",
+        run: ending::run,
+        only_deep: true,
+    },
+];
+
+const fn usual(what: &'static str, run: fn(&Settings, &mut Both)) -> Part {
+    Part {
+        what,
+        run,
+        only_deep: false,
+    }
+}
+
+/// What the program was asked for.
+enum Task {
+    Help,
+    Vectors(String),
+    Compare(Settings),
+}
+
+fn main() -> ExitCode {
+    match task(std::env::args().skip(1)) {
+        Ok(Task::Help) => println!("{HELP}"),
+        Ok(Task::Vectors(folder)) => return write_vectors(&folder),
+        Ok(Task::Compare(settings)) => compare(&settings),
+        Err(problem) => {
+            eprintln!("{problem}\n\n{HELP}");
+            return ExitCode::from(2);
+        }
+    }
+    ExitCode::SUCCESS
+}
+
+fn task(mut args: impl Iterator<Item = String>) -> Result<Task, String> {
+    let (mut deep, mut seed, mut depth) = (false, None, None);
+    while let Some(arg) = args.next() {
+        match arg.as_str() {
+            "--help" => return Ok(Task::Help),
+            "--vectors" => {
+                let folder = args.next().ok_or("--vectors needs a folder")?;
+                return Ok(Task::Vectors(folder));
+            }
+            "--deep" => deep = true,
+            "--seed" => seed = Some(number(args.next(), "--seed")?),
+            "--depth" => depth = Some(number(args.next(), "--depth")?),
+            _ => return Err(format!("there is no flag {arg}")),
+        }
+    }
+    let mut settings = if deep {
+        Settings::deep()
+    } else {
+        Settings::usual()
+    };
+    settings.seed = seed.unwrap_or(settings.seed);
+    settings.depth = depth.unwrap_or(settings.depth);
+    Ok(Task::Compare(settings))
+}
+
+fn number<N: std::str::FromStr>(arg: Option<String>, flag: &str) -> Result<N, String> {
+    arg.and_then(|arg| arg.parse().ok())
+        .ok_or_else(|| format!("{flag} needs a number"))
+}
+
+fn compare(settings: &Settings) {
+    println!("seed {}, depth {}", settings.seed, settings.depth);
+    let start = Instant::now();
+    let mut both = Both::new();
+    for part in &PARTS {
+        if settings.deep || !part.only_deep {
+            run_part(part, settings, &mut both);
+        }
+    }
+    let seconds = start.elapsed().as_secs_f64();
+    println!("total: {} calls compared, {seconds:.1} s", both.compared);
+}
+
+fn run_part(part: &Part, settings: &Settings, both: &mut Both) {
+    let start = Instant::now();
+    let before = both.compared;
+    (part.run)(settings, both);
+    let calls = both.compared - before;
+    let seconds = start.elapsed().as_secs_f64();
+    println!("{}: {calls} calls compared, {seconds:.1} s", part.what);
+}
+
+fn write_vectors(folder: &str) -> ExitCode {
+    match vectors::write(folder) {
+        Ok(()) => ExitCode::SUCCESS,
+        Err(error) => {
+            eprintln!("{folder}: {error}");
+            ExitCode::FAILURE
+        }
+    }
+}

@@ -1,0 +1,120 @@
+//! The proved side: every call on the static library.
+
+use crate::calls::{Answer, Call, CursorRead, IdsRead};
+use crate::ffi::*;
+
+pub struct ProvedSide {
+    ids: IdsNumbers,
+    cursor: CursorNumbers,
+}
+
+impl ProvedSide {
+    pub fn new() -> ProvedSide {
+        ProvedSide {
+            ids: hiskurdo_ids_for_run(0),
+            cursor: hiskurdo_cursor_new(0),
+        }
+    }
+
+    pub fn answer(&mut self, call: &Call) -> Answer {
+        match *call {
+            Call::RunSuccessor { run } => Answer::Told(hiskurdo_run_successor(run)),
+            Call::SeqSuccessor { seq } => Answer::Told(hiskurdo_seq_successor(seq)),
+            Call::ForRun { run } => {
+                self.ids = hiskurdo_ids_for_run(run);
+                Answer::Ids(self.read_ids())
+            }
+            Call::Resume {
+                run,
+                committed,
+                last,
+            } => {
+                self.ids = hiskurdo_ids_resume(run, committed, last);
+                Answer::Ids(self.read_ids())
+            }
+            Call::Allocate => {
+                let allocated = hiskurdo_ids_allocate(self.ids);
+                self.ids = allocated.ids;
+                Answer::Allocated {
+                    answer: allocated.answer,
+                    ids: self.read_ids(),
+                }
+            }
+            Call::NewCursor { run } => {
+                self.cursor = hiskurdo_cursor_new(run);
+                Answer::Cursor(self.read_cursor())
+            }
+            Call::Advance(record) => Answer::Advanced {
+                answer: self.advance(&record),
+                kind: hiskurdo_record_kind(record),
+                cursor: self.read_cursor(),
+            },
+            _ => timer_answer(call),
+        }
+    }
+
+    pub fn advance(&mut self, record: &RecordNumbers) -> Told {
+        let advanced = hiskurdo_cursor_advance(self.cursor, *record);
+        self.cursor = advanced.cursor;
+        advanced.answer
+    }
+
+    pub fn read_cursor(&self) -> CursorRead {
+        CursorRead {
+            run: hiskurdo_cursor_run(self.cursor),
+            position: hiskurdo_cursor_position(self.cursor),
+            is_terminal: hiskurdo_cursor_is_terminal(self.cursor),
+            pending: hiskurdo_cursor_pending(self.cursor),
+            pending_timer: hiskurdo_cursor_pending_timer(self.cursor),
+            next_seq: hiskurdo_cursor_next_seq(self.cursor),
+            next_effect_id: hiskurdo_cursor_next_effect_id(self.cursor),
+        }
+    }
+
+    fn read_ids(&self) -> IdsRead {
+        IdsRead {
+            run: hiskurdo_ids_run(self.ids),
+            peek: hiskurdo_ids_peek(self.ids),
+        }
+    }
+
+    pub fn cursor(&self) -> CursorNumbers {
+        self.cursor
+    }
+
+    pub fn set_cursor(&mut self, cursor: &CursorNumbers) {
+        self.cursor = *cursor;
+    }
+
+    /// Whether the current cursor equals another.
+    pub fn stands_at(&self, cursor: &CursorNumbers) -> bool {
+        self.cursor == *cursor
+    }
+}
+
+fn timer_answer(call: &Call) -> Answer {
+    match *call {
+        Call::Spec(spec) => Answer::Spec {
+            clock: hiskurdo_spec_clock_kind(spec),
+            deadline: hiskurdo_spec_deadline(spec),
+        },
+        Call::RearmedAt {
+            spec,
+            recorded,
+            now,
+        } => Answer::Number(hiskurdo_spec_rearmed_at(spec, recorded, now)),
+        Call::Recorded { clock, deadline } => Answer::Told(hiskurdo_spec_recorded(clock, deadline)),
+        Call::Admits { capability, spec } => Answer::Told(hiskurdo_admits(capability, spec)),
+        Call::Arm {
+            spec,
+            capability,
+            now,
+        } => Answer::Told(hiskurdo_timer_arm(spec, capability, now)),
+        Call::Evaluate {
+            spec,
+            armed,
+            reading,
+        } => Answer::Told(hiskurdo_timer_evaluate(spec, armed, reading)),
+        _ => unreachable!("not a timer's call"),
+    }
+}

@@ -1,0 +1,56 @@
+//! Boundary values.
+
+pub const U32: [u32; 20] = [
+    0,
+    1,
+    2,
+    5,
+    99,
+    100,
+    255,
+    256,
+    65_534,
+    65_535,
+    65_536,
+    0x7FFF_FFFE,
+    0x7FFF_FFFF,
+    0x8000_0000,
+    0x8000_0001,
+    0xFFFF_FBFF,
+    0xFFFF_FFFC,
+    0xFFFF_FFFD,
+    0xFFFF_FFFE,
+    0xFFFF_FFFF,
+];
+
+pub const U64: [u64; 26] = [
+    0,
+    1,
+    2,
+    5,
+    40,
+    99,
+    100,
+    104,
+    105,
+    65_534,
+    65_535,
+    65_536,
+    0x7FFF_FFFF,
+    0x8000_0000,
+    0x8000_0001,
+    0xFFFF_FFFE,
+    0xFFFF_FFFF,
+    0x1_0000_0000,
+    0x1_0000_0001,
+    0x7FFF_FFFF_FFFF_FFFE,
+    0x7FFF_FFFF_FFFF_FFFF,
+    0x8000_0000_0000_0000,
+    0x8000_0000_0000_0001,
+    0xFFFF_FFFF_FFFF_FFFD,
+    0xFFFF_FFFF_FFFF_FFFE,
+    0xFFFF_FFFF_FFFF_FFFF,
+];
+
+/// A few runs, for the parts that need not have them all.
+pub const RUNS: [u64; 3] = [0, 7, u64::MAX];
