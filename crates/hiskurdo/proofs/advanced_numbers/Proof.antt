@@ -1,0 +1,13 @@
+-- `advanced_numbers` meets its contract: field by field.
+-- Assumes nothing.
+use borrow.Author.Needs.{needs}
+use Rattle.hiskurdo.proofs.advanced_numbers.Statement.{statement}
+use Rattle.hiskurdo.proofs.advanced_numbers.Tie as tie
+
+pub advanced-numbers-spec : {M : Type 1} → statement M
+advanced-numbers-spec =
+    tie.close
+    (tie.spec
+    (λ c κs. search needs)
+    (λ c κs. search needs)
+    (λ c. cc))

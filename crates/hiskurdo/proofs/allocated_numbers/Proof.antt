@@ -1,0 +1,13 @@
+-- `allocated_numbers` meets its contract: field by field.
+-- Assumes nothing.
+use borrow.Author.Needs.{needs}
+use Rattle.hiskurdo.proofs.allocated_numbers.Statement.{statement}
+use Rattle.hiskurdo.proofs.allocated_numbers.Tie as tie
+
+pub allocated-numbers-spec : {M : Type 1} → statement M
+allocated-numbers-spec =
+    tie.close
+    (tie.spec
+    (λ c κs. search needs)
+    (λ c κs. search needs)
+    (λ c. cc))

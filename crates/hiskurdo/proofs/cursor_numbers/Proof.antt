@@ -1,0 +1,13 @@
+-- `cursor_numbers` meets its contract: field by field.
+-- Assumes nothing.
+use borrow.Author.Needs.{needs}
+use Rattle.hiskurdo.proofs.cursor_numbers.Statement.{statement}
+use Rattle.hiskurdo.proofs.cursor_numbers.Tie as tie
+
+pub cursor-numbers-spec : {M : Type 1} → statement M
+cursor-numbers-spec =
+    tie.close
+    (tie.spec
+    (λ c κs. search needs)
+    (λ c κs. search needs)
+    (λ c. cc))

@@ -1,0 +1,15 @@
+-- `hiskurdo_admits` meets its contract: it is the call it makes, between the conversions.
+-- Assumes nothing.
+use borrow.Author.Needs.{needs}
+use Rattle.hiskurdo.proofs.hiskurdo_admits.Statement.{statement}
+use Rattle.hiskurdo.proofs.hiskurdo_admits.Tie as tie
+
+pub hiskurdo-admits-spec : {M : Type 1} → statement M
+hiskurdo-admits-spec =
+    tie.close
+    (tie.spec
+    (λ c κs. search needs)
+    (λ c κs. search needs)
+    (λ c κs. search needs)
+    (λ c κs. search needs)
+    (λ c. cc))

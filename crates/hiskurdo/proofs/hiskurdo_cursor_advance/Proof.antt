@@ -1,0 +1,15 @@
+-- `hiskurdo_cursor_advance` meets its contract: it is the call it makes, between the conversions.
+-- Assumes nothing.
+use borrow.Author.Needs.{needs}
+use Rattle.hiskurdo.proofs.hiskurdo_cursor_advance.Statement.{statement}
+use Rattle.hiskurdo.proofs.hiskurdo_cursor_advance.Tie as tie
+
+pub hiskurdo-cursor-advance-spec : {M : Type 1} → statement M
+hiskurdo-cursor-advance-spec =
+    tie.close
+    (tie.spec
+    (λ c κs. search needs)
+    (λ c κs. search needs)
+    (λ c κs. search needs)
+    (λ c κs. search needs)
+    (λ c. cc))

@@ -1,0 +1,13 @@
+-- `hiskurdo_cursor_new` meets its contract: it is the call it makes, between the conversions.
+-- Assumes nothing.
+use borrow.Author.Needs.{needs}
+use Rattle.hiskurdo.proofs.hiskurdo_cursor_new.Statement.{statement}
+use Rattle.hiskurdo.proofs.hiskurdo_cursor_new.Tie as tie
+
+pub hiskurdo-cursor-new-spec : {M : Type 1} → statement M
+hiskurdo-cursor-new-spec =
+    tie.close
+    (tie.spec
+    (λ c κs. search needs)
+    (λ c κs. search needs)
+    (λ c. rw (c .cursor-numbers .ensures, c .before .new .ensures)))

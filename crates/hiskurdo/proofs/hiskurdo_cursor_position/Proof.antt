@@ -1,0 +1,14 @@
+-- `hiskurdo_cursor_position` meets its contract: it is the call it makes, between the conversions.
+-- Assumes nothing.
+use borrow.Author.Needs.{needs}
+use Rattle.hiskurdo.proofs.hiskurdo_cursor_position.Statement.{statement}
+use Rattle.hiskurdo.proofs.hiskurdo_cursor_position.Tie as tie
+
+pub hiskurdo-cursor-position-spec : {M : Type 1} → statement M
+hiskurdo-cursor-position-spec =
+    tie.close
+    (tie.spec
+    (λ c κs. search needs)
+    (λ c κs. search needs)
+    (λ c κs. search needs)
+    (λ c. rw (c .told .ensures, c .before .position .ensures, c .before .before .cursor-of .ensures)))

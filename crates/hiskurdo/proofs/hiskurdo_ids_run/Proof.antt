@@ -1,0 +1,13 @@
+-- `hiskurdo_ids_run` meets its contract: it is the call it makes, between the conversions.
+-- Assumes nothing.
+use borrow.Author.Needs.{needs}
+use Rattle.hiskurdo.proofs.hiskurdo_ids_run.Statement.{statement}
+use Rattle.hiskurdo.proofs.hiskurdo_ids_run.Tie as tie
+
+pub hiskurdo-ids-run-spec : {M : Type 1} → statement M
+hiskurdo-ids-run-spec =
+    tie.close
+    (tie.spec
+    (λ c κs. search needs)
+    (λ c κs. search needs)
+    (λ c. cc))

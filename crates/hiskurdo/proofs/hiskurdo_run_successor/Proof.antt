@@ -1,0 +1,13 @@
+-- `hiskurdo_run_successor` meets its contract: it is the call it makes, between the conversions.
+-- Assumes nothing.
+use borrow.Author.Needs.{needs}
+use Rattle.hiskurdo.proofs.hiskurdo_run_successor.Statement.{statement}
+use Rattle.hiskurdo.proofs.hiskurdo_run_successor.Tie as tie
+
+pub hiskurdo-run-successor-spec : {M : Type 1} → statement M
+hiskurdo-run-successor-spec =
+    tie.close
+    (tie.spec
+    (λ c κs. search needs)
+    (λ c κs. search needs)
+    (λ c. cc))

@@ -1,0 +1,13 @@
+-- `hiskurdo_spec_clock_kind` meets its contract: it is the call it makes, between the conversions.
+-- Assumes nothing.
+use borrow.Author.Needs.{needs}
+use Rattle.hiskurdo.proofs.hiskurdo_spec_clock_kind.Statement.{statement}
+use Rattle.hiskurdo.proofs.hiskurdo_spec_clock_kind.Tie as tie
+
+pub hiskurdo-spec-clock-kind-spec : {M : Type 1} → statement M
+hiskurdo-spec-clock-kind-spec =
+    tie.close
+    (tie.spec
+    (λ c κs. search needs)
+    (λ c κs. search needs)
+    (λ c. cc))

@@ -1,0 +1,13 @@
+-- `spec_of` meets its contract: the test is that of the rule.
+-- Assumes nothing.
+use borrow.Author.Needs.{needs}
+use borrow.Author.Tests.{eq-eqb, ne-eqb}
+use Rattle.hiskurdo.proofs.spec_of.Statement.{statement}
+use Rattle.hiskurdo.proofs.spec_of.Tie as tie
+
+pub spec-of-spec : {M : Type 1} → statement M
+spec-of-spec =
+    tie.close
+    (tie.spec
+    (λ c. rw (eq-eqb _ _ (c .if1 .taken)))
+    (λ c. rw (ne-eqb _ _ (c .if1 .left))))

@@ -1,0 +1,28 @@
+-- `state_numbers` meets its contract: each state has its numbers, over those of a bare position.
+-- Assumes nothing.
+use borrow.Author.Needs.{needs}
+use Rattle.errors.proofs.Arms.{by-arm}
+use Rattle.hiskurdo.specs.Numbers.{cursorNumbersFor}
+use Rattle.hiskurdo.proofs.state_numbers.Statement.{statement}
+use Rattle.hiskurdo.proofs.state_numbers.Tie as tie
+
+pub state-numbers-spec : {M : Type 1} → statement M
+state-numbers-spec =
+    tie.close
+    (tie.spec
+    (λ c κs. search needs)
+    (λ c. search needs)
+    (λ c. search needs)
+    (λ c. search needs)
+    (λ c. search needs)
+    (λ c. search needs)
+    (λ c. search needs)
+    (λ c. search needs)
+    (λ c κs. search needs)
+    (λ c. by-arm (cursorNumbersFor (c .before .before .before .args .ids)) (c .enum-told .given .1) (rw (c .before .before .bare-numbers .ensures)))
+    (λ c. by-arm (cursorNumbersFor (c .before .before .before .args .ids)) (c .enum-told2 .given .1) (rw (c .before .before .bare-numbers .ensures)))
+    (λ c. by-arm (cursorNumbersFor (c .before .before .before .before .args .ids)) (c .before .state .given .1) (rw (c .before .before .before .bare-numbers .ensures)))
+    (λ c. by-arm (cursorNumbersFor (c .before .before .before .before .args .ids)) (c .before .state2 .given .1) (rw (c .before .before .before .bare-numbers .ensures)))
+    (λ c. by-arm (cursorNumbersFor (c .before .before .before .args .ids)) (c .enum-told3 .given .1) (rw (c .before .before .bare-numbers .ensures)))
+    (λ c. by-arm (cursorNumbersFor (c .before .before .before .args .ids)) (c .enum-told4 .given .1) (rw (c .before .before .bare-numbers .ensures)))
+    (λ c. by-arm (cursorNumbersFor (c .before .before .before .before .before .args .ids)) (c .before .before .state3 .given .1) (rw (c .before .before .before .before .bare-numbers .ensures, c .number .ensures))))
