@@ -1,0 +1,32 @@
+-- `walk` is safe and ends: the markers are at most 2^32, and each turn counts one.
+-- Assumes nothing.
+use Prim.Native.Nat.{_≤_, _-_}
+use borrow.Author.Needs.{needs}
+use Rattle.numbering.proofs.walk.Statement.{statement}
+use Rattle.numbering.proofs.walk.Tie as tie
+
+abbrev Inv-loop : tie.InvT-loop
+Inv-loop cursor₀ markers₀ cursor markers = markers ≤ 4294967296
+
+abbrev μ-loop : tie.MeasureT-loop
+μ-loop cursor₀ markers₀ cursor markers = 4294967296 - markers
+
+pub walk-spec : {M : Type 1} → statement M
+walk-spec =
+    tie.close
+    (tie.spec
+    Inv-loop
+    μ-loop
+    (λ c κs. search needs)
+    (λ c κs. search needs)
+    (λ c. search needs)
+    (λ c. search needs)
+    (λ c κs. search needs)
+    (λ c κs. search needs)
+    (λ c. search needs)
+    (λ c. search needs)
+    (λ c. search needs)
+    (λ c. search needs)
+    (λ c. search needs)
+    (λ c. search needs)
+    (λ c. search needs))

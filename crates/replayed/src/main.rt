@@ -1,0 +1,237 @@
+// Replays a fixed list of calls: each line of standard input is a call, and each line that is written its answers.
+// The file stdout holds what the Rust answered to the same calls (docs/COMPARISON.md says how both were made).
+ghost use Prim.Native.Nat.{_<_, _≤_};
+ghost use lib.ListN.{length};
+use errors::Told;
+use hiskurdo::CursorNumbers;
+use hiskurdo::IdsNumbers;
+use hiskurdo::RecordNumbers;
+use hiskurdo::SpecNumbers;
+
+// The allocator and the cursor that the calls work on.
+struct Current {
+    ids: IdsNumbers,
+    cursor: CursorNumbers,
+}
+
+// The numbers of one line, and where the next line begins.
+struct Line {
+    values: [u64; 8],
+    next: usize,
+}
+
+fn main() {
+    let mut text = io::large_buffer();
+    let n = io::read_full(0, &mut text);
+    replay(&text[..n]);
+}
+
+fn replay(text: &[u8]) {
+    let mut now = Current {
+        ids: hiskurdo::hiskurdo_ids_for_run(0),
+        cursor: hiskurdo::hiskurdo_cursor_new(0),
+    };
+    let mut at: usize = 0;
+    while at < text.len() {
+        let line = read_line(text, at);
+        let values = line.values;
+        now = call(now, values);
+        io::write_all(1, b"\n");
+        at = line.next;
+    }
+}
+
+// The decimal numbers of the line that begins at `at`, up to eight.
+fn read_line(text: &[u8], at: usize) -> Line
+    requires { ⌜ at < length (now text) ⌝ }
+    ensures { λ r. ⌜ (at < r .next) × (r .next ≤ length (now (text .entry))) ⌝ }
+{
+    let mut values = [0u64; 8];
+    let mut k: usize = 0;
+    let mut next = at;
+    while next < text.len() {
+        let b = text[next];
+        next += 1;
+        if b == 10 {
+            return Line { values, next };
+        }
+        if b == 32 {
+            k = (k + 1) % 8;
+        } else {
+            values[k] = with_digit(values[k], b);
+        }
+    }
+    Line { values, next }
+}
+
+// n with one more decimal digit; n itself where b is none, or the number would not fit.
+fn with_digit(n: u64, b: u8) -> u64 {
+    if b < 48 {
+        return n;
+    }
+    let digit = (b - 48) as u64;
+    if 9 < digit {
+        return n;
+    }
+    if n < 1844674407370955161 {
+        return n * 10 + digit;
+    }
+    if 1844674407370955161 < n {
+        return n;
+    }
+    if 5 < digit {
+        return n;
+    }
+    n * 10 + digit
+}
+
+// One call, by its number, with what it writes.
+fn call(now: Current, values: [u64; 8]) -> Current {
+    let op = values[0];
+    if op < 3 {
+        successor_call(op, values[1]);
+        return now;
+    }
+    if op < 6 {
+        return ids_call(now, op, values);
+    }
+    if op < 12 {
+        timer_call(op, values);
+        return now;
+    }
+    cursor_call(now, op, values)
+}
+
+fn successor_call(op: u64, n: u64) {
+    if op == 1 {
+        say(hiskurdo::hiskurdo_run_successor(n));
+    } else {
+        say(hiskurdo::hiskurdo_seq_successor(low32(n)));
+    }
+}
+
+fn ids_call(now: Current, op: u64, values: [u64; 8]) -> Current {
+    let cursor = now.cursor;
+    let old = now.ids;
+    let ids = next_ids(old, op, values);
+    number(hiskurdo::hiskurdo_ids_run(ids));
+    io::write_all(1, b" ");
+    say(hiskurdo::hiskurdo_ids_peek(ids));
+    Current { ids, cursor }
+}
+
+fn next_ids(old: IdsNumbers, op: u64, values: [u64; 8]) -> IdsNumbers {
+    if op == 3 {
+        return hiskurdo::hiskurdo_ids_for_run(values[1]);
+    }
+    if op == 4 {
+        return hiskurdo::hiskurdo_ids_resume(values[1], low8(values[2]), low32(values[3]));
+    }
+    let allocated = hiskurdo::hiskurdo_ids_allocate(old);
+    say(allocated.answer);
+    io::write_all(1, b" ");
+    allocated.ids
+}
+
+fn timer_call(op: u64, values: [u64; 8]) {
+    let spec = SpecNumbers {
+        deadline: values[2],
+        clock: low8(values[1]),
+    };
+    match op {
+        6 => {
+            number(hiskurdo::hiskurdo_spec_clock_kind(spec) as u64);
+            io::write_all(1, b" ");
+            number(hiskurdo::hiskurdo_spec_deadline(spec));
+        }
+        7 => number(hiskurdo::hiskurdo_spec_rearmed_at(spec, values[3], values[4])),
+        8 => say(hiskurdo::hiskurdo_spec_recorded(low8(values[1]), values[2])),
+        9 => admits_call(values),
+        10 => say(hiskurdo::hiskurdo_timer_arm(spec, low8(values[3]), values[4])),
+        _ => say(hiskurdo::hiskurdo_timer_evaluate(spec, values[3], values[4])),
+    }
+}
+
+fn admits_call(values: [u64; 8]) {
+    let spec = SpecNumbers {
+        deadline: values[3],
+        clock: low8(values[2]),
+    };
+    say(hiskurdo::hiskurdo_admits(low8(values[1]), spec));
+}
+
+fn cursor_call(now: Current, op: u64, values: [u64; 8]) -> Current {
+    let ids = now.ids;
+    if op == 12 {
+        let cursor = hiskurdo::hiskurdo_cursor_new(values[1]);
+        readers(cursor);
+        return Current { ids, cursor };
+    }
+    let record = RecordNumbers {
+        kind: low8(values[1]),
+        clock: low8(values[2]),
+        a: low16(values[3]),
+        s: low32(values[4]),
+        d: values[5],
+        m: values[6],
+        start: values[7],
+    };
+    let advanced = hiskurdo::hiskurdo_cursor_advance(now.cursor, record);
+    say(advanced.answer);
+    io::write_all(1, b" ");
+    number(hiskurdo::hiskurdo_record_kind(record) as u64);
+    io::write_all(1, b" ");
+    let cursor = advanced.cursor;
+    readers(cursor);
+    Current { ids, cursor }
+}
+
+// What every reader of the cursor says.
+fn readers(cursor: CursorNumbers) {
+    number(hiskurdo::hiskurdo_cursor_run(cursor));
+    let position = hiskurdo::hiskurdo_cursor_position(cursor);
+    io::write_all(1, b" ");
+    number(position.number);
+    io::write_all(1, b" ");
+    number(position.a);
+    io::write_all(1, b" ");
+    number(hiskurdo::hiskurdo_cursor_is_terminal(cursor) as u64);
+    io::write_all(1, b" ");
+    say(hiskurdo::hiskurdo_cursor_pending(cursor));
+    io::write_all(1, b" ");
+    say(hiskurdo::hiskurdo_cursor_pending_timer(cursor));
+    io::write_all(1, b" ");
+    say(hiskurdo::hiskurdo_cursor_next_seq(cursor));
+    io::write_all(1, b" ");
+    say(hiskurdo::hiskurdo_cursor_next_effect_id(cursor));
+}
+
+fn say(told: Told) {
+    number(told.number);
+    io::write_all(1, b" ");
+    number(told.a);
+    io::write_all(1, b" ");
+    number(told.b);
+    io::write_all(1, b" ");
+    number(told.c);
+    io::write_all(1, b" ");
+    number(told.d);
+    io::write_all(1, b" ");
+    number(told.e);
+}
+
+fn number(n: u64) {
+    io::print_decimal(1, n);
+}
+
+fn low8(n: u64) -> u8 {
+    (n % 256) as u8
+}
+
+fn low16(n: u64) -> u16 {
+    (n % 65536) as u16
+}
+
+fn low32(n: u64) -> u32 {
+    (n % 4294967296) as u32
+}
