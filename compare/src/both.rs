@@ -3,10 +3,7 @@
 use std::fmt::Debug;
 use std::process;
 
-use waymaker_core::ReplayCursor;
-
 use crate::calls::{Answer, Call};
-use crate::ffi::CursorNumbers;
 use crate::proved_side::ProvedSide;
 use crate::rust_side::RustSide;
 
@@ -21,10 +18,10 @@ pub struct Both {
     before: String,
 }
 
-/// A place to come back to: a cursor on both sides.
+/// A place to come back to: where both sides stand.
 pub struct Place {
-    rust: ReplayCursor,
-    proved: CursorNumbers,
+    rust: RustSide,
+    proved: ProvedSide,
     calls: usize,
 }
 
@@ -86,20 +83,20 @@ impl Both {
 
     pub fn here(&self) -> Place {
         Place {
-            rust: self.rust.cursor(),
-            proved: self.proved.cursor(),
+            rust: self.rust.copy(),
+            proved: self.proved,
             calls: self.calls.len(),
         }
     }
 
     pub fn back_to(&mut self, place: &Place) {
-        self.rust.set_cursor(&place.rust);
-        self.proved.set_cursor(&place.proved);
+        self.rust = place.rust.copy();
+        self.proved = place.proved;
         self.calls.truncate(place.calls);
     }
 
-    /// Whether a cursor of either side is no longer what it was.
+    /// Whether either side does not stand as it does at the place.
     pub fn moved_from(&self, place: &Place) -> bool {
-        !self.rust.stands_at(&place.rust) || !self.proved.stands_at(&place.proved)
+        self.rust != place.rust || self.proved != place.proved
     }
 }

@@ -4,9 +4,29 @@
 
 use std::fmt;
 
-use crate::ffi::{RecordNumbers, SpecNumbers, Told};
+use crate::ffi::{PendingNumbers, RecordNumbers, RequestNumbers, SpecNumbers, Told};
 
-/// One call. A side keeps a current allocator and a current cursor between calls.
+/// What is next in history: the record, or where `ended` is not 0 the end.
+#[derive(Clone, Copy, Debug)]
+pub struct NextNumbers {
+    pub ended: u8,
+    pub record: RecordNumbers,
+}
+
+impl NextNumbers {
+    pub fn end() -> NextNumbers {
+        NextNumbers {
+            ended: 1,
+            record: RecordNumbers::default(),
+        }
+    }
+
+    pub fn of(record: RecordNumbers) -> NextNumbers {
+        NextNumbers { ended: 0, record }
+    }
+}
+
+/// One call. A side keeps a current allocator, cursor and machine between calls.
 #[derive(Clone, Copy, Debug)]
 pub enum Call {
     RunSuccessor {
@@ -52,6 +72,27 @@ pub enum Call {
         run: u64,
     },
     Advance(RecordNumbers),
+    NewMachine {
+        run: u64,
+    },
+    MachineAdvance(RecordNumbers),
+    Intent {
+        request: RequestNumbers,
+        next: NextNumbers,
+    },
+    Outcome(NextNumbers),
+    TimerIntent {
+        spec: SpecNumbers,
+        capability: u8,
+        next: NextNumbers,
+    },
+    TimerOutcome(NextNumbers),
+    Divergence {
+        request: RequestNumbers,
+        recorded: PendingNumbers,
+        run: u64,
+        seq: u32,
+    },
 }
 
 impl Call {
@@ -88,14 +129,69 @@ impl Call {
                 reading,
             } => vec![11, spec.clock.into(), spec.deadline, armed, reading],
             Call::NewCursor { run } => vec![12, run],
-            Call::Advance(record) => advance_numbers(&record),
+            Call::Advance(record) => [vec![13], record_numbers(&record)].concat(),
+            _ => self.machine_numbers(),
+        }
+    }
+
+    fn machine_numbers(&self) -> Vec<u64> {
+        match *self {
+            Call::NewMachine { run } => vec![14, run],
+            Call::MachineAdvance(record) => [vec![15], record_numbers(&record)].concat(),
+            Call::Intent { request, next } => {
+                [vec![16], request_numbers(&request), next_numbers(&next)].concat()
+            }
+            Call::Outcome(next) => [vec![17], next_numbers(&next)].concat(),
+            Call::TimerIntent {
+                spec,
+                capability,
+                next,
+            } => {
+                let start = vec![18, spec.clock.into(), spec.deadline, capability.into()];
+                [start, next_numbers(&next)].concat()
+            }
+            Call::TimerOutcome(next) => [vec![19], next_numbers(&next)].concat(),
+            Call::Divergence {
+                request,
+                recorded,
+                run,
+                seq,
+            } => [
+                vec![20],
+                request_numbers(&request),
+                pending_numbers(&recorded),
+                vec![run, seq.into()],
+            ]
+            .concat(),
+            _ => unreachable!("not a machine's call"),
         }
     }
 }
 
-fn advance_numbers(record: &RecordNumbers) -> Vec<u64> {
+fn request_numbers(request: &RequestNumbers) -> Vec<u64> {
     vec![
-        13,
+        request.kind.into(),
+        request.input_len.into(),
+        request.input_crc.into(),
+    ]
+}
+
+fn pending_numbers(pending: &PendingNumbers) -> Vec<u64> {
+    vec![
+        pending.run,
+        pending.seq.into(),
+        pending.kind.into(),
+        pending.input_len.into(),
+        pending.input_crc.into(),
+    ]
+}
+
+fn next_numbers(next: &NextNumbers) -> Vec<u64> {
+    [vec![next.ended.into()], record_numbers(&next.record)].concat()
+}
+
+fn record_numbers(record: &RecordNumbers) -> Vec<u64> {
+    vec![
         record.kind.into(),
         record.clock.into(),
         record.a.into(),
@@ -151,6 +247,28 @@ impl CursorRead {
     }
 }
 
+/// What the readers of a machine tell.
+#[derive(Clone, Copy, PartialEq, Eq, Debug)]
+pub struct MachineRead {
+    pub run: u64,
+    pub position: Told,
+    pub pending: Told,
+    pub pending_timer: Told,
+    pub diverged: u8,
+}
+
+impl MachineRead {
+    fn numbers(&self) -> Vec<u64> {
+        [
+            vec![self.run, self.position.number, self.position.a],
+            told_numbers(&self.pending),
+            told_numbers(&self.pending_timer),
+            vec![self.diverged.into()],
+        ]
+        .concat()
+    }
+}
+
 /// The answer to a call, with every reader's value after it.
 #[derive(Clone, Copy, PartialEq, Eq, Debug)]
 pub enum Answer {
@@ -171,6 +289,11 @@ pub enum Answer {
         kind: u8,
         cursor: CursorRead,
     },
+    Machine(MachineRead),
+    Answered {
+        answer: Told,
+        machine: MachineRead,
+    },
 }
 
 impl Answer {
@@ -187,6 +310,10 @@ impl Answer {
                 kind,
                 cursor,
             } => [told_numbers(answer), vec![(*kind).into()], cursor.numbers()].concat(),
+            Answer::Machine(machine) => machine.numbers(),
+            Answer::Answered { answer, machine } => {
+                [told_numbers(answer), machine.numbers()].concat()
+            }
         }
     }
 }

@@ -1,18 +1,15 @@
-//! Part 5: the end of numbering, walked to with a marker for each of the 2^32 numbers.
-
-use std::time::{Duration, Instant};
+//! Cursors at the end of numbering, walked to with a marker for each of the 2^32 numbers.
 
 use crate::Settings;
 use crate::both::Both;
 use crate::calls::{Answer, Call};
 use crate::exhaustive;
 use crate::ffi::{RecordNumbers, Told};
+use crate::markers::{SLOW, Walked, marker, started, walk_to_slow};
+use crate::proved_side::ProvedSide;
+use crate::rust_side::RustSide;
 
 const RUN: u64 = 7;
-/// How many markers one side is fed before the other; a power of two.
-const CHUNK: u32 = 4_096;
-/// The first number that is walked to with all readers compared after each call.
-const SLOW: u32 = u32::MAX - 15;
 /// How deep every sequence of records is tried near the end and at the end.
 const DEPTH: u32 = 4;
 
@@ -22,7 +19,7 @@ const HALTED: u64 = 6;
 pub fn run(_settings: &Settings, both: &mut Both) {
     both.begin(Call::NewCursor { run: RUN });
     both.call(Call::Advance(started()));
-    let (rust, proved) = walk_to_slow(both);
+    let seconds = walk_to_slow::<Cursors>(both, RUN);
     for number in SLOW..u32::MAX {
         both.call(Call::Advance(marker(number)));
     }
@@ -30,79 +27,28 @@ pub fn run(_settings: &Settings, both: &mut Both) {
     both.call(Call::Advance(marker(u32::MAX)));
     at_the_end(both);
     exhaustive::walk(both, DEPTH);
-    println!(
-        "  a marker for each of the 2^32 numbers: Rust {:.1} s, proved {:.1} s",
-        rust.as_secs_f64(),
-        proved.as_secs_f64()
-    );
+    println!("{seconds}");
 }
 
-fn started() -> RecordNumbers {
-    RecordNumbers {
-        kind: 1,
-        a: 3,
-        d: 1,
-        ..RecordNumbers::default()
+struct Cursors;
+
+impl Walked for Cursors {
+    const NAME: &str = "cursor";
+
+    fn rust(side: &mut RustSide, record: &RecordNumbers) -> Told {
+        side.advance(record)
     }
-}
 
-/// The marker with this number; its gate and version change with the number.
-fn marker(number: u32) -> RecordNumbers {
-    RecordNumbers {
-        kind: 9,
-        a: number as u16,
-        s: number,
-        d: (number >> 16).into(),
-        ..RecordNumbers::default()
+    fn proved(side: &mut ProvedSide, record: &RecordNumbers) -> Told {
+        side.advance(record)
     }
-}
 
-/// Compares the answers to all markers below `SLOW`, and the readers after each chunk.
-/// Returns the time that each side took.
-fn walk_to_slow(both: &mut Both) -> (Duration, Duration) {
-    let mut answers = Vec::with_capacity(CHUNK as usize);
-    let (mut rust, mut proved) = (Duration::ZERO, Duration::ZERO);
-    let mut first = 0;
-    while first < SLOW {
-        let end = first.saturating_add(CHUNK).min(SLOW);
-        rust += walk_rust(both, first..end, &mut answers);
-        proved += walk_proved(both, first..end, &answers);
-        both.set_before(format!(
-            "a cursor of run {RUN}, a start, and markers with the numbers below {end}"
-        ));
-        compare_readers(both);
-        both.compared += u64::from(end - first);
-        first = end;
-    }
-    (rust, proved)
-}
-
-fn walk_rust(both: &mut Both, numbers: std::ops::Range<u32>, answers: &mut Vec<Told>) -> Duration {
-    let start = Instant::now();
-    answers.clear();
-    answers.extend(numbers.map(|number| both.rust.advance(&marker(number))));
-    start.elapsed()
-}
-
-fn walk_proved(both: &mut Both, numbers: std::ops::Range<u32>, answers: &[Told]) -> Duration {
-    let start = Instant::now();
-    for (number, rust) in numbers.zip(answers) {
-        let proved = both.proved.advance(&marker(number));
-        if proved != *rust {
-            both.set_before(format!(
-                "a cursor of run {RUN}, a start, and markers with the numbers to {number}"
-            ));
-            both.differ(rust, &proved);
+    fn compare_readers(both: &Both) {
+        let rust = both.rust.read_cursor();
+        let proved = both.proved.read_cursor();
+        if rust != proved {
+            both.differ(&rust, &proved);
         }
-    }
-    start.elapsed()
-}
-
-fn compare_readers(both: &Both) {
-    let rust = both.rust.read_cursor();
-    let proved = both.proved.read_cursor();
-    if rust != proved {
-        both.differ(&rust, &proved);
     }
 }
 

@@ -1,4 +1,4 @@
-//! Part 3: every sequence of records over an alphabet, up to a depth.
+//! Cursors, exhaustively: every sequence of records over an alphabet, up to a depth.
 
 use crate::Settings;
 use crate::both::Both;

@@ -76,6 +76,42 @@ pub struct AdvancedNumbers {
     pub answer: Told,
 }
 
+/// An effect as it is asked for.
+#[repr(C)]
+#[derive(Clone, Copy, PartialEq, Eq, Debug, Default)]
+pub struct RequestNumbers {
+    pub input_crc: u32,
+    pub kind: u16,
+    pub input_len: u16,
+}
+
+/// An effect as it is recorded.
+#[repr(C)]
+#[derive(Clone, Copy, PartialEq, Eq, Debug, Default)]
+pub struct PendingNumbers {
+    pub run: u64,
+    pub seq: u32,
+    pub input_crc: u32,
+    pub kind: u16,
+    pub input_len: u16,
+}
+
+/// A machine: `phase` is 0 settled, 1 awaiting outcome, 2 awaiting firing, 3 diverged; `divergence` is 0 unless it has diverged.
+#[repr(C)]
+#[derive(Clone, Copy, PartialEq, Eq, Debug, Default)]
+pub struct MachineNumbers {
+    pub cursor: CursorNumbers,
+    pub phase: u8,
+    pub divergence: u8,
+}
+
+#[repr(C)]
+#[derive(Clone, Copy, PartialEq, Eq, Debug, Default)]
+pub struct MachineAnswered {
+    pub machine: MachineNumbers,
+    pub answer: Told,
+}
+
 unsafe extern "C" {
     pub safe fn hiskurdo_run_successor(run: u64) -> Told;
     pub safe fn hiskurdo_seq_successor(seq: u32) -> Told;
@@ -107,4 +143,20 @@ unsafe extern "C" {
     pub safe fn hiskurdo_cursor_next_seq(cursor: CursorNumbers) -> Told;
     pub safe fn hiskurdo_cursor_next_effect_id(cursor: CursorNumbers) -> Told;
     pub safe fn hiskurdo_cursor_advance(cursor: CursorNumbers, record: RecordNumbers) -> AdvancedNumbers;
+
+    /// The number of the divergence, 0 where there is none.
+    pub safe fn hiskurdo_divergence_from(request: RequestNumbers, recorded: PendingNumbers, run: u64, seq: u32) -> u8;
+    pub safe fn hiskurdo_machine_new(run: u64) -> MachineNumbers;
+    pub safe fn hiskurdo_machine_run(machine: MachineNumbers) -> u64;
+    pub safe fn hiskurdo_machine_position(machine: MachineNumbers) -> Told;
+    pub safe fn hiskurdo_machine_pending(machine: MachineNumbers) -> Told;
+    pub safe fn hiskurdo_machine_pending_timer(machine: MachineNumbers) -> Told;
+    /// The number of the divergence, 0 where there is none.
+    pub safe fn hiskurdo_machine_diverged(machine: MachineNumbers) -> u8;
+    pub safe fn hiskurdo_machine_advance(machine: MachineNumbers, record: RecordNumbers) -> MachineAnswered;
+    /// `ended` 0: `record` is next; any other: history ends here, and `record` is not read. So below.
+    pub safe fn hiskurdo_machine_intent(machine: MachineNumbers, request: RequestNumbers, ended: u8, record: RecordNumbers) -> MachineAnswered;
+    pub safe fn hiskurdo_machine_outcome(machine: MachineNumbers, ended: u8, record: RecordNumbers) -> MachineAnswered;
+    pub safe fn hiskurdo_machine_timer_intent(machine: MachineNumbers, spec: SpecNumbers, capability: u8, ended: u8, record: RecordNumbers) -> MachineAnswered;
+    pub safe fn hiskurdo_machine_timer_outcome(machine: MachineNumbers, ended: u8, record: RecordNumbers) -> MachineAnswered;
 }

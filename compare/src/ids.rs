@@ -1,4 +1,4 @@
-//! Part 1: the successors of ids, and the allocator.
+//! The successors of ids, and the allocator.
 
 use crate::Settings;
 use crate::both::Both;

@@ -1,4 +1,4 @@
-//! Part 4: long sequences of records at random, legal for most of their length.
+//! Cursors: long sequences of records at random, legal for most of their length.
 
 use crate::Settings;
 use crate::both::Both;

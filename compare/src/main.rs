@@ -3,16 +3,23 @@
 
 mod both;
 mod calls;
+mod divergence;
 mod ending;
 mod exhaustive;
 #[rustfmt::skip]
 mod ffi;
 mod ids;
 mod long_runs;
+mod long_scripts;
+mod machine_ending;
+mod machine_vectors;
+mod markers;
 mod proved_side;
 mod random;
 mod records;
+mod rust_machine;
 mod rust_side;
+mod scripts;
 mod timers;
 mod values;
 mod vectors;
@@ -26,9 +33,10 @@ const HELP: &str = "\
 Compares the proved code with the Rust source it was ported from, call by call.
 On the first difference: prints the calls and both answers, and exits with 1.
 
-compare                   all parts but the last, about a minute
-compare --deep            deeper and longer, and the end of numbering; up to half an hour
-compare --depth N         the depth of the exhaustive part
+compare                   all parts but the ends of numbering, two to three minutes
+compare --deep            deeper and longer, and the ends of numbering; up to half an hour
+compare --depth N         the depth of the cursors' exhaustive part
+compare --script-depth N  the depth of the machines' exhaustive part
 compare --seed N          the seed of the random parts
 compare --vectors FOLDER  only writes FOLDER/stdin and FOLDER/stdout: a fixed sample of
                           calls, and the answers of the Rust source
@@ -41,8 +49,10 @@ the folder with libhiskurdo.a; a relative one is taken from the root of the repo
 pub struct Settings {
     pub seed: u64,
     pub depth: u32,
+    pub script_depth: u32,
     pub random_timers: u64,
     pub long_runs: u64,
+    pub long_scripts: u64,
     deep: bool,
 }
 
@@ -51,8 +61,10 @@ impl Settings {
         Settings {
             seed: 1,
             depth: 8,
+            script_depth: 10,
             random_timers: 4_000_000,
             long_runs: 2_000,
+            long_scripts: 1_000,
             deep: false,
         }
     }
@@ -61,8 +73,10 @@ impl Settings {
         let usual = Settings::usual();
         Settings {
             depth: usual.depth + 1,
+            script_depth: usual.script_depth + 1,
             random_timers: 20 * usual.random_timers,
             long_runs: 20 * usual.long_runs,
+            long_scripts: 20 * usual.long_scripts,
             deep: true,
             ..usual
         }
@@ -76,17 +90,17 @@ struct Part {
     only_deep: bool,
 }
 
-const PARTS: [Part; 6] = [
+const PARTS: [Part; 10] = [
     usual("ids and allocators", ids::run),
     usual("timers", timers::run),
+    usual("divergence", divergence::run),
     usual("the calls of --vectors", vectors::run),
     usual("cursors, every short sequence", exhaustive::run),
     usual("cursors, long sequences at random", long_runs::run),
-    Part {
-        what: "cursors, the end of numbering",
-        run: ending::run,
-        only_deep: true,
-    },
+    usual("machines, every short script", scripts::run),
+    usual("machines, long scripts at random", long_scripts::run),
+    only_deep("cursors, the end of numbering", ending::run),
+    only_deep("machines, the end of numbering", machine_ending::run),
 ];
 
 const fn usual(what: &'static str, run: fn(&Settings, &mut Both)) -> Part {
@@ -94,6 +108,14 @@ const fn usual(what: &'static str, run: fn(&Settings, &mut Both)) -> Part {
         what,
         run,
         only_deep: false,
+    }
+}
+
+const fn only_deep(what: &'static str, run: fn(&Settings, &mut Both)) -> Part {
+    Part {
+        what,
+        run,
+        only_deep: true,
     }
 }
 
@@ -118,7 +140,7 @@ fn main() -> ExitCode {
 }
 
 fn task(mut args: impl Iterator<Item = String>) -> Result<Task, String> {
-    let (mut deep, mut seed, mut depth) = (false, None, None);
+    let (mut deep, mut seed, mut depth, mut script_depth) = (false, None, None, None);
     while let Some(arg) = args.next() {
         match arg.as_str() {
             "--help" => return Ok(Task::Help),
@@ -129,6 +151,7 @@ fn task(mut args: impl Iterator<Item = String>) -> Result<Task, String> {
             "--deep" => deep = true,
             "--seed" => seed = Some(number(args.next(), "--seed")?),
             "--depth" => depth = Some(number(args.next(), "--depth")?),
+            "--script-depth" => script_depth = Some(number(args.next(), "--script-depth")?),
             _ => return Err(format!("there is no flag {arg}")),
         }
     }
@@ -139,6 +162,7 @@ fn task(mut args: impl Iterator<Item = String>) -> Result<Task, String> {
     };
     settings.seed = seed.unwrap_or(settings.seed);
     settings.depth = depth.unwrap_or(settings.depth);
+    settings.script_depth = script_depth.unwrap_or(settings.script_depth);
     Ok(Task::Compare(settings))
 }
 
@@ -148,7 +172,10 @@ fn number<N: std::str::FromStr>(arg: Option<String>, flag: &str) -> Result<N, St
 }
 
 fn compare(settings: &Settings) {
-    println!("seed {}, depth {}", settings.seed, settings.depth);
+    println!(
+        "seed {}, depth {}, script depth {}",
+        settings.seed, settings.depth, settings.script_depth
+    );
     let start = Instant::now();
     let mut both = Both::new();
     for part in &PARTS {

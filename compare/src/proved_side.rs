@@ -1,11 +1,13 @@
 //! The proved side: every call on the static library.
 
-use crate::calls::{Answer, Call, CursorRead, IdsRead};
+use crate::calls::{Answer, Call, CursorRead, IdsRead, MachineRead};
 use crate::ffi::*;
 
+#[derive(Clone, Copy, PartialEq)]
 pub struct ProvedSide {
     ids: IdsNumbers,
     cursor: CursorNumbers,
+    machine: MachineNumbers,
 }
 
 impl ProvedSide {
@@ -13,6 +15,7 @@ impl ProvedSide {
         ProvedSide {
             ids: hiskurdo_ids_for_run(0),
             cursor: hiskurdo_cursor_new(0),
+            machine: hiskurdo_machine_new(0),
         }
     }
 
@@ -49,8 +52,54 @@ impl ProvedSide {
                 kind: hiskurdo_record_kind(record),
                 cursor: self.read_cursor(),
             },
+            Call::NewMachine { run } => {
+                self.machine = hiskurdo_machine_new(run);
+                Answer::Machine(self.read_machine())
+            }
+            Call::MachineAdvance(_)
+            | Call::Intent { .. }
+            | Call::Outcome(_)
+            | Call::TimerIntent { .. }
+            | Call::TimerOutcome(_) => Answer::Answered {
+                answer: self.machine_call(call),
+                machine: self.read_machine(),
+            },
+            Call::Divergence {
+                request,
+                recorded,
+                run,
+                seq,
+            } => Answer::Number(hiskurdo_divergence_from(request, recorded, run, seq).into()),
             _ => timer_answer(call),
         }
+    }
+
+    fn machine_call(&mut self, call: &Call) -> Told {
+        let machine = self.machine;
+        let answered = match *call {
+            Call::MachineAdvance(record) => hiskurdo_machine_advance(machine, record),
+            Call::Intent { request, next } => {
+                hiskurdo_machine_intent(machine, request, next.ended, next.record)
+            }
+            Call::Outcome(next) => hiskurdo_machine_outcome(machine, next.ended, next.record),
+            Call::TimerIntent {
+                spec,
+                capability,
+                next,
+            } => hiskurdo_machine_timer_intent(machine, spec, capability, next.ended, next.record),
+            Call::TimerOutcome(next) => {
+                hiskurdo_machine_timer_outcome(machine, next.ended, next.record)
+            }
+            _ => unreachable!("not a machine's call"),
+        };
+        self.machine = answered.machine;
+        answered.answer
+    }
+
+    pub fn machine_advance(&mut self, record: &RecordNumbers) -> Told {
+        let answered = hiskurdo_machine_advance(self.machine, *record);
+        self.machine = answered.machine;
+        answered.answer
     }
 
     pub fn advance(&mut self, record: &RecordNumbers) -> Told {
@@ -78,17 +127,14 @@ impl ProvedSide {
         }
     }
 
-    pub fn cursor(&self) -> CursorNumbers {
-        self.cursor
-    }
-
-    pub fn set_cursor(&mut self, cursor: &CursorNumbers) {
-        self.cursor = *cursor;
-    }
-
-    /// Whether the current cursor equals another.
-    pub fn stands_at(&self, cursor: &CursorNumbers) -> bool {
-        self.cursor == *cursor
+    pub fn read_machine(&self) -> MachineRead {
+        MachineRead {
+            run: hiskurdo_machine_run(self.machine),
+            position: hiskurdo_machine_position(self.machine),
+            pending: hiskurdo_machine_pending(self.machine),
+            pending_timer: hiskurdo_machine_pending_timer(self.machine),
+            diverged: hiskurdo_machine_diverged(self.machine),
+        }
     }
 }
 

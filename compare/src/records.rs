@@ -51,6 +51,30 @@ pub fn legal_kinds(cursor: &CursorRead) -> &'static [u8] {
     }
 }
 
+/// A record with plain fields.
+pub fn plain(kind: u8, s: u32) -> RecordNumbers {
+    let (clock, a, d, m, start) = match kind {
+        1 => (0, 3, 1, 5, 16),
+        2 => (0, 4, 5, 99, 0),
+        3 => (0, 0, 0, 5, 16),
+        4 => (0, 0, 0, 2, 30),
+        5 => (1, 0, 5, 100, 0),
+        7 => (0, 0, 0, 2, 8),
+        8 => (0, 0, 0, 3, 9),
+        9 => (0, 6, 2, 0, 0),
+        _ => (0, 0, 0, 0, 0),
+    };
+    RecordNumbers {
+        kind,
+        clock,
+        a,
+        s,
+        d,
+        m,
+        start,
+    }
+}
+
 /// A record with fields at random, those that its kind does not use too.
 pub fn at_random(random: &mut Random, kind: u8, s: u32) -> RecordNumbers {
     let mut record = RecordNumbers {

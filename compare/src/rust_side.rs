@@ -2,12 +2,13 @@
 
 use waymaker_core::{
     ActivityKind, ClockCapability, ClockKind, Deadline, EffectId, EffectIdAllocator, EffectSeq,
-    GateId, KernelError, PendingEffect, PendingTimer, Position, RecordRef, ReplayCursor, RunId,
-    Step, Timer, TimerSpec,
+    GateId, KernelError, PendingEffect, PendingTimer, Position, RecordRef, ReplayCursor,
+    ReplayMachine, RunId, Step, Timer, TimerSpec,
 };
 
-use crate::calls::{Answer, Call, CursorRead, IdsRead};
+use crate::calls::{Answer, Call, CursorRead, IdsRead, MachineRead};
 use crate::ffi::{RecordNumbers, SpecNumbers, Told};
+use crate::rust_machine;
 
 /// The largest start and the largest length of a body.
 pub const BODY_LIMIT: u64 = 65_535;
@@ -15,9 +16,11 @@ pub const BODY_LIMIT: u64 = 65_535;
 /// Every body is a slice of this buffer.
 static BUFFER: [u8; 2 * BODY_LIMIT as usize] = [0; 2 * BODY_LIMIT as usize];
 
+#[derive(PartialEq)]
 pub struct RustSide {
     ids: EffectIdAllocator,
     cursor: ReplayCursor,
+    machine: ReplayMachine,
 }
 
 impl RustSide {
@@ -25,7 +28,16 @@ impl RustSide {
         RustSide {
             ids: EffectIdAllocator::for_run(RunId(0)),
             cursor: ReplayCursor::new(RunId(0)),
+            machine: ReplayMachine::new(RunId(0)),
         }
+    }
+
+    /// A second side that stands where this one does.
+    pub fn copy(&self) -> RustSide {
+        const { assert!(!std::mem::needs_drop::<RustSide>()) };
+        // SAFETY: the types have no `Clone` on purpose, but they are plain numbers, borrow
+        // nothing and have nothing to drop, so the same bytes are valid values of their own.
+        unsafe { std::ptr::read(self) }
     }
 
     pub fn answer(&mut self, call: &Call) -> Answer {
@@ -60,6 +72,24 @@ impl RustSide {
                 kind: record_of(&record).kind().0,
                 cursor: self.read_cursor(),
             },
+            Call::NewMachine { run } => {
+                self.machine = ReplayMachine::new(RunId(run));
+                Answer::Machine(self.read_machine())
+            }
+            Call::MachineAdvance(_)
+            | Call::Intent { .. }
+            | Call::Outcome(_)
+            | Call::TimerIntent { .. }
+            | Call::TimerOutcome(_) => Answer::Answered {
+                answer: rust_machine::call(&mut self.machine, call),
+                machine: self.read_machine(),
+            },
+            Call::Divergence {
+                request,
+                recorded,
+                run,
+                seq,
+            } => Answer::Number(rust_machine::divergence(request, recorded, run, seq).into()),
             _ => timer_answer(call),
         }
     }
@@ -90,27 +120,19 @@ impl RustSide {
         }
     }
 
-    /// A copy of the current cursor, to come back to.
-    pub fn cursor(&self) -> ReplayCursor {
-        copy_of(&self.cursor)
+    pub fn machine_advance(&mut self, record: &RecordNumbers) -> Told {
+        rust_machine::advance(&mut self.machine, record)
     }
 
-    pub fn set_cursor(&mut self, cursor: &ReplayCursor) {
-        self.cursor = copy_of(cursor);
+    pub fn read_machine(&self) -> MachineRead {
+        rust_machine::read(&self.machine)
     }
 
-    /// Whether the current cursor equals another.
-    pub fn stands_at(&self, cursor: &ReplayCursor) -> bool {
-        self.cursor == *cursor
+    /// The number that a record for the machine must have; where none is, the last one.
+    pub fn machine_number(&self) -> u32 {
+        let mut probe = self.copy().machine;
+        rust_machine::number(&mut probe)
     }
-}
-
-/// The type has no `Clone` on purpose; a comparison needs many cursors with one past.
-fn copy_of(cursor: &ReplayCursor) -> ReplayCursor {
-    const { assert!(!std::mem::needs_drop::<ReplayCursor>()) };
-    // SAFETY: a cursor is plain numbers, borrows nothing and has nothing to drop, so a
-    // second one with the same bytes is a valid cursor of its own.
-    unsafe { std::ptr::read(cursor) }
 }
 
 fn timer_answer(call: &Call) -> Answer {
@@ -155,7 +177,7 @@ fn evaluate(spec: TimerSpec, armed: u64, reading: u64) -> Told {
     }
 }
 
-fn spec_of(spec: SpecNumbers) -> TimerSpec {
+pub fn spec_of(spec: SpecNumbers) -> TimerSpec {
     match spec.clock {
         1 => TimerSpec::AfterBoot {
             ticks: spec.deadline,
@@ -166,14 +188,14 @@ fn spec_of(spec: SpecNumbers) -> TimerSpec {
     }
 }
 
-fn capability_of(capability: u8) -> ClockCapability {
+pub fn capability_of(capability: u8) -> ClockCapability {
     match capability {
         0 => ClockCapability::BootOnly,
         _ => ClockCapability::Persistent,
     }
 }
 
-fn record_of(record: &RecordNumbers) -> RecordRef<'static> {
+pub fn record_of(record: &RecordNumbers) -> RecordRef<'static> {
     let seq = EffectSeq(record.s);
     match record.kind {
         1 => RecordRef::RunStarted {
@@ -224,12 +246,12 @@ fn body_of(record: &RecordNumbers) -> &'static [u8] {
 }
 
 /// Where a body starts in the buffer, and its length.
-fn place_of(body: &[u8]) -> [u64; 2] {
+pub fn place_of(body: &[u8]) -> [u64; 2] {
     let start = body.as_ptr().addr() - BUFFER.as_ptr().addr();
     [start as u64, body.len() as u64]
 }
 
-fn told(number: u64, values: &[u64]) -> Told {
+pub fn told(number: u64, values: &[u64]) -> Told {
     let value = |place: usize| values.get(place).copied().unwrap_or(0);
     Told {
         number,
@@ -265,11 +287,11 @@ fn error_number(error: KernelError) -> u64 {
     }
 }
 
-fn told_error(error: KernelError) -> Told {
+pub fn told_error(error: KernelError) -> Told {
     told(error_number(error), &[])
 }
 
-fn id_values(id: EffectId) -> [u64; 2] {
+pub fn id_values(id: EffectId) -> [u64; 2] {
     [id.run.0, id.seq.0.into()]
 }
 
@@ -313,7 +335,7 @@ fn told_deadline(deadline: Result<Deadline, KernelError>) -> Told {
     }
 }
 
-fn told_position(position: Position) -> Told {
+pub fn told_position(position: Position) -> Told {
     match position {
         Position::BeforeRun => told(0, &[]),
         Position::Replaying => told(1, &[]),
@@ -347,27 +369,27 @@ fn timer_values(timer: &PendingTimer) -> [u64; 5] {
     ]
 }
 
-fn told_pending(effect: Option<PendingEffect>) -> Told {
+pub fn told_pending(effect: Option<PendingEffect>) -> Told {
     match effect {
         Some(effect) => told(1, &effect_values(&effect)),
         None => told(0, &[]),
     }
 }
 
-fn told_pending_timer(timer: Option<PendingTimer>) -> Told {
+pub fn told_pending_timer(timer: Option<PendingTimer>) -> Told {
     match timer {
         Some(timer) => told(1, &timer_values(&timer)),
         None => told(0, &[]),
     }
 }
 
-fn told_outcome(number: u64, id: EffectId, body: &[u8]) -> Told {
+pub fn told_outcome(number: u64, id: EffectId, body: &[u8]) -> Told {
     let [run, seq] = id_values(id);
     let [start, length] = place_of(body);
     told(number, &[run, seq, start, length])
 }
 
-fn told_step(step: &Step<'_>) -> Told {
+pub fn told_step(step: &Step<'_>) -> Told {
     match *step {
         Step::RunStarted {
             workflow_kind,

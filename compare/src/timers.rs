@@ -1,4 +1,4 @@
-//! Part 2: timers.
+//! Timers.
 
 use crate::Settings;
 use crate::both::Both;

@@ -11,22 +11,30 @@ use crate::both::Both;
 use crate::calls::Call;
 use crate::ffi::{RecordNumbers, SpecNumbers};
 use crate::long_runs::{legal, likely_legal};
+use crate::machine_vectors;
 use crate::random::Random;
-use crate::records::{KINDS, has_number, right_number, wrong_numbers};
+use crate::records::{KINDS, has_number, plain, right_number, wrong_numbers};
 use crate::rust_side::RustSide;
 use crate::values;
 
 /// The most bytes of the file of calls.
-const LIMIT: usize = 60_000;
+const LIMIT: usize = 64_000;
 const SEED: u64 = 2_026;
+/// Not 0, so that a new cursor or machine of this run is not what stands at the start.
 const RUN: u64 = 7;
+/// The number of the position that a cursor does not leave.
+const HALTED: u64 = 6;
 
 pub fn run(_settings: &Settings, both: &mut Both) {
     both.begin(Call::ForRun { run: 0 });
     both.call(Call::NewCursor { run: 0 });
+    both.call(Call::NewMachine { run: 0 });
     for call in sample() {
         match call {
-            Call::ForRun { .. } | Call::Resume { .. } | Call::NewCursor { .. } => both.begin(call),
+            Call::ForRun { .. }
+            | Call::Resume { .. }
+            | Call::NewCursor { .. }
+            | Call::NewMachine { .. } => both.begin(call),
             _ => both.call(call),
         };
     }
@@ -50,14 +58,22 @@ fn line(text: &mut String, line: &impl std::fmt::Display) {
     writeln!(text, "{line}").expect("a string takes all text");
 }
 
-/// The calls. The first ones use the allocator and the cursor that stand at the start.
+/// The calls. The first ones use what stands at the start: an allocator, a cursor and a
+/// machine.
 fn sample() -> Vec<Call> {
-    let mut calls = vec![Call::Allocate, Call::Advance(plain(1, 0))];
+    let start = plain(1, 0);
+    let mut calls = vec![
+        Call::Allocate,
+        Call::Advance(start),
+        Call::MachineAdvance(start),
+    ];
+    let mut random = Random::new(SEED);
     ids(&mut calls);
     timers(&mut calls);
     positions(&mut calls);
     shapes(&mut calls);
-    long_runs(&mut calls);
+    long_run(&mut calls, &mut random);
+    machine_vectors::push(&mut calls, &mut random);
     calls
 }
 
@@ -160,30 +176,6 @@ fn evaluations(calls: &mut Vec<Call>, spec: SpecNumbers, armed: u64) {
     }));
 }
 
-/// A record with plain fields.
-fn plain(kind: u8, s: u32) -> RecordNumbers {
-    let (clock, a, d, m, start) = match kind {
-        1 => (0, 3, 1, 5, 16),
-        2 => (0, 4, 5, 99, 0),
-        3 => (0, 0, 0, 5, 16),
-        4 => (0, 0, 0, 2, 30),
-        5 => (1, 0, 5, 100, 0),
-        7 => (0, 0, 0, 2, 8),
-        8 => (0, 0, 0, 3, 9),
-        9 => (0, 6, 2, 0, 0),
-        _ => (0, 0, 0, 0, 0),
-    };
-    RecordNumbers {
-        kind,
-        clock,
-        a,
-        s,
-        d,
-        m,
-        start,
-    }
-}
-
 /// Short histories (kinds and numbers) that lead to every position.
 const HISTORIES: [&[(u8, u32)]; 12] = [
     &[],
@@ -200,38 +192,71 @@ const HISTORIES: [&[(u8, u32)]; 12] = [
     &[(1, 0), (2, 1)],
 ];
 
-/// From every history, every kind with right and wrong numbers, then the end of the run.
+/// From every history, every kind with right and wrong numbers, and the end of the run
+/// after each record that passes.
 fn positions(calls: &mut Vec<Call>) {
     for history in HISTORIES {
-        let right = right_after(history);
+        let history: Vec<Call> = history
+            .iter()
+            .map(|(kind, s)| Call::Advance(plain(*kind, *s)))
+            .collect();
+        let mut after = After::new(Call::NewCursor { run: RUN }, history);
+        let right = right_number(&after.there.read_cursor());
         for kind in KINDS {
-            from_history(calls, history, plain(kind, right));
+            after.make(calls, Call::Advance(plain(kind, right)));
+            if after.now.read_cursor().position.number != HALTED {
+                after.make_on(calls, Call::Advance(plain(7, 0)));
+            }
             if has_number(kind) {
                 for s in wrong_numbers(right) {
-                    from_history(calls, history, plain(kind, s));
+                    after.make(calls, Call::Advance(plain(kind, s)));
                 }
             }
         }
     }
 }
 
-fn right_after(history: &[(u8, u32)]) -> u32 {
-    let mut rust = RustSide::new();
-    for (kind, s) in history {
-        rust.advance(&plain(*kind, *s));
-    }
-    right_number(&rust.read_cursor())
+/// Calls that are each made after the same history. It is made again only where the call
+/// before changed something.
+pub struct After {
+    new: Call,
+    history: Vec<Call>,
+    /// What stands after the history.
+    there: RustSide,
+    /// What stands after the last call.
+    now: RustSide,
 }
 
-fn from_history(calls: &mut Vec<Call>, history: &[(u8, u32)], record: RecordNumbers) {
-    calls.push(Call::NewCursor { run: RUN });
-    calls.extend(
-        history
-            .iter()
-            .map(|(kind, s)| Call::Advance(plain(*kind, *s))),
-    );
-    calls.push(Call::Advance(record));
-    calls.push(Call::Advance(plain(7, 0)));
+impl After {
+    pub fn new(new: Call, history: Vec<Call>) -> After {
+        let mut there = RustSide::new();
+        there.answer(&new);
+        for call in &history {
+            there.answer(call);
+        }
+        After {
+            new,
+            history,
+            there,
+            now: RustSide::new(),
+        }
+    }
+
+    /// The call after the history.
+    pub fn make(&mut self, calls: &mut Vec<Call>, call: Call) {
+        if self.now != self.there {
+            calls.push(self.new);
+            calls.extend(&self.history);
+            self.now = self.there.copy();
+        }
+        self.make_on(calls, call);
+    }
+
+    /// The call after the one before.
+    fn make_on(&mut self, calls: &mut Vec<Call>, call: Call) {
+        calls.push(call);
+        self.now.answer(&call);
+    }
 }
 
 /// Fields at their ends, each on a cursor that takes the record.
@@ -265,22 +290,19 @@ fn shapes(calls: &mut Vec<Call>) {
     }
 }
 
-fn long_runs(calls: &mut Vec<Call>) {
-    let mut random = Random::new(SEED);
-    for length in [3, 10, 40, 80, 100] {
-        let mut rust = RustSide::new();
-        let mut push = |rust: &mut RustSide, call| {
-            rust.answer(&call);
-            calls.push(call);
-        };
-        push(&mut rust, Call::NewCursor { run: random.any() });
-        for _ in 0..length {
-            let record = legal(&mut random, &rust.read_cursor());
-            push(&mut rust, Call::Advance(record));
-        }
-        for _ in 0..20 {
-            let record = likely_legal(&mut random, &rust.read_cursor());
-            push(&mut rust, Call::Advance(record));
-        }
+fn long_run(calls: &mut Vec<Call>, random: &mut Random) {
+    let mut rust = RustSide::new();
+    let mut push = |rust: &mut RustSide, call| {
+        rust.answer(&call);
+        calls.push(call);
+    };
+    push(&mut rust, Call::NewCursor { run: random.any() });
+    for _ in 0..10 {
+        let record = legal(random, &rust.read_cursor());
+        push(&mut rust, Call::Advance(record));
+    }
+    for _ in 0..5 {
+        let record = likely_legal(random, &rust.read_cursor());
+        push(&mut rust, Call::Advance(record));
     }
 }

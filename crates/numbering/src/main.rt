@@ -1,18 +1,24 @@
-// The end of numbering, walked from a fresh cursor: `RunStarted`, 2^32 markers, then all that is said of "no number left".
+// The end of numbering, walked from a fresh machine: `RunStarted`, 2^32 markers, then all that is said of "no number left".
+// The cursor that is tried is the walked machine's own.
+use clocks::ClockCapability;
+use clocks::TimerSpec;
 use cursor::ReplayCursor;
 use cursor::StepResult;
-use errors::Told;
 use ids::ActivityKind;
 use ids::ClockKind;
 use ids::EffectSeq;
 use ids::GateId;
 use ids::RunId;
+use machine::EffectRequest;
+use machine::Next;
+use machine::ReplayMachine;
+use machine::TimerRequest;
 use records::Body;
 use records::RecordRef;
 
-// A cursor, and how many markers it accepted.
+// A machine, and how many markers it accepted.
 struct Walked {
-    cursor: ReplayCursor,
+    machine: ReplayMachine,
     markers: u64,
 }
 
@@ -20,95 +26,219 @@ fn main() {
     let walked = walk();
     say(b"markers accepted ", walked.markers);
     io::write_all(1, b"\n");
-    let end = walked.cursor;
-    readers(end);
-    let body = Body { start: 0, len: 0 };
-    let seq = EffectSeq(4294967295);
-    let first = EffectSeq(0);
-    try_record(b"marker, last number again: ", end, marker(seq));
-    try_record(b"marker, number 0: ", end, marker(first));
-    try_record(
-        b"schedule: ",
-        end,
-        RecordRef::EffectScheduled {
-            seq: first,
-            kind: ActivityKind(1),
-            input_len: 0,
-            input_crc: 0,
-        },
-    );
-    try_record(
-        b"timer: ",
-        end,
-        RecordRef::TimerScheduled {
-            seq: first,
-            clock_kind: ClockKind(1),
-            deadline: 5,
-            armed_at: 0,
-        },
-    );
-    try_record(
-        b"run completed: ",
-        end,
-        RecordRef::RunCompleted { result: body },
-    );
-    try_record(b"run failed: ", end, RecordRef::RunFailed { error: body });
+    let machine = walked.machine;
+    let cursor = machine.cursor;
+    cursor_at_the_end(cursor);
+    machine_at_the_end(machine);
+    timers_at_the_end(machine);
 }
 
-fn marker(seq: EffectSeq) -> RecordRef {
+// From a fresh machine: the start, then a marker for each number, as long as they are accepted.
+fn walk() -> Walked {
+    let fresh = ReplayMachine::new(RunId(7));
+    let started = fresh.advance(start());
+    let mut machine = started.machine;
+    let mut markers: u64 = 0;
+    while markers < 4294967296 {
+        let advanced = machine.advance(marker(markers as u32));
+        let answer = advanced.answer;
+        if let StepResult::Err(_) = answer {
+            return Walked { machine, markers };
+        }
+        let next = advanced.machine;
+        machine = next;
+        markers += 1;
+    }
+    Walked { machine, markers }
+}
+
+// Records.
+
+fn body() -> Body {
+    Body { start: 0, len: 0 }
+}
+
+fn start() -> RecordRef {
+    RecordRef::RunStarted {
+        workflow_kind: 1,
+        workflow_version: 1,
+        input: body(),
+    }
+}
+
+fn marker(seq: u32) -> RecordRef {
     RecordRef::VersionMarker {
-        seq,
+        seq: EffectSeq(seq),
         gate: GateId(1),
         version: 1,
     }
 }
 
-// From a fresh cursor: the start, then a marker for each number, as long as they are accepted.
-fn walk() -> Walked {
-    let fresh = ReplayCursor::new(RunId(7));
-    let body = Body { start: 0, len: 0 };
-    let started = fresh.advance(RecordRef::RunStarted {
-        workflow_kind: 1,
-        workflow_version: 1,
-        input: body,
-    });
-    let mut cursor = started.cursor;
-    let mut markers: u64 = 0;
-    while markers < 4294967296 {
-        let advanced = cursor.advance(marker(EffectSeq(markers as u32)));
-        let answer = advanced.answer;
-        if let StepResult::Err(_) = answer {
-            return Walked { cursor, markers };
-        }
-        let next = advanced.cursor;
-        cursor = next;
-        markers += 1;
+fn schedule() -> RecordRef {
+    RecordRef::EffectScheduled {
+        seq: EffectSeq(0),
+        kind: ActivityKind(1),
+        input_len: 0,
+        input_crc: 0,
     }
-    Walked { cursor, markers }
 }
 
-// What the readers say.
+fn timer(clock: u8) -> RecordRef {
+    RecordRef::TimerScheduled {
+        seq: EffectSeq(0),
+        clock_kind: ClockKind(clock),
+        deadline: 5,
+        armed_at: 0,
+    }
+}
+
+fn completed() -> RecordRef {
+    RecordRef::RunCompleted { result: body() }
+}
+
+fn failed() -> RecordRef {
+    RecordRef::RunFailed { error: body() }
+}
+
+// The cursor.
+
+fn cursor_at_the_end(cursor: ReplayCursor) {
+    io::write_all(1, b"cursor: ");
+    readers(cursor);
+    advance(
+        b"cursor, marker with the last number: ",
+        cursor,
+        marker(4294967295),
+    );
+    advance(b"cursor, marker with number 0: ", cursor, marker(0));
+    advance(b"cursor, schedule: ", cursor, schedule());
+    advance(b"cursor, timer: ", cursor, timer(1));
+    advance(b"cursor, run completed: ", cursor, completed());
+    advance(b"cursor, run failed: ", cursor, failed());
+}
+
+fn advance(label: &[u8], cursor: ReplayCursor, record: RecordRef) {
+    io::write_all(1, label);
+    let advanced = cursor.advance(record);
+    let answer = advanced.answer;
+    let next = advanced.cursor;
+    say(b"answer ", answer.told().number);
+    io::write_all(1, b", ");
+    readers(next);
+}
+
 fn readers(cursor: ReplayCursor) {
     let position = cursor.position().told();
     say(b"position ", position.number);
     say(b" ", position.a);
-    let next = cursor.next_seq().told();
-    say(b", next_seq ", next.number);
-    let id = cursor.next_effect_id().told();
-    say(b", next_effect_id ", id.number);
+    say(b", next_seq ", cursor.next_seq().told().number);
+    say(b", next_effect_id ", cursor.next_effect_id().told().number);
     io::write_all(1, b"\n");
 }
 
-// The answer to one record, then what the readers say.
-fn try_record(label: &[u8], cursor: ReplayCursor, record: RecordRef) {
+// The machine, asked for an effect.
+
+fn machine_at_the_end(machine: ReplayMachine) {
+    intent(b"intent, end of history: ", machine, Next::EndOfHistory);
+    intent(b"intent, own schedule: ", machine, Next::Record(schedule()));
+    intent(b"intent, timer: ", machine, Next::Record(timer(1)));
+    intent(b"intent, marker: ", machine, Next::Record(marker(0)));
+    intent(
+        b"intent, run completed: ",
+        machine,
+        Next::Record(completed()),
+    );
+    intent(b"intent, run failed: ", machine, Next::Record(failed()));
+    intent(b"intent, second start: ", machine, Next::Record(start()));
+}
+
+fn intent(label: &[u8], machine: ReplayMachine, next: Next) {
+    let request = EffectRequest {
+        kind: ActivityKind(1),
+        input_len: 0,
+        input_crc: 0,
+    };
+    let done = machine.intent(request, next);
+    let answer = done.answer;
+    let after = done.machine;
     io::write_all(1, label);
-    let advanced = cursor.advance(record);
-    let answer = advanced.answer;
-    let told = answer.told();
-    say(b"answer ", told.number);
-    io::write_all(1, b", ");
-    let next = advanced.cursor;
-    readers(next);
+    answered(answer.told().number, after);
+}
+
+// The machine, asked for a timer.
+
+fn timers_at_the_end(machine: ReplayMachine) {
+    let boot = ClockCapability::BootOnly;
+    let both = ClockCapability::Persistent;
+    timer_intent(
+        b"timer_intent, end of history, no such clock: ",
+        machine,
+        boot,
+        Next::EndOfHistory,
+    );
+    timer_intent(
+        b"timer_intent, end of history, admitted: ",
+        machine,
+        both,
+        Next::EndOfHistory,
+    );
+    timer_intent(
+        b"timer_intent, own timer: ",
+        machine,
+        both,
+        Next::Record(timer(2)),
+    );
+    timer_intent(
+        b"timer_intent, own timer, unknown clock: ",
+        machine,
+        both,
+        Next::Record(timer(0)),
+    );
+    timer_intent(
+        b"timer_intent, schedule: ",
+        machine,
+        both,
+        Next::Record(schedule()),
+    );
+    timer_intent(
+        b"timer_intent, marker: ",
+        machine,
+        both,
+        Next::Record(marker(0)),
+    );
+    timer_intent(
+        b"timer_intent, run completed: ",
+        machine,
+        both,
+        Next::Record(completed()),
+    );
+    timer_intent(
+        b"timer_intent, run failed: ",
+        machine,
+        both,
+        Next::Record(failed()),
+    );
+}
+
+fn timer_intent(label: &[u8], machine: ReplayMachine, capability: ClockCapability, next: Next) {
+    let request = TimerRequest {
+        spec: TimerSpec::AtPersistentTime { instant: 5 },
+        capability,
+    };
+    let done = machine.timer_intent(request, next);
+    let answer = done.answer;
+    let after = done.machine;
+    io::write_all(1, label);
+    answered(answer.told().number, after);
+}
+
+fn answered(number: u64, machine: ReplayMachine) {
+    let position = machine.position().told();
+    say(b"answer ", number);
+    say(b", position ", position.number);
+    say(b" ", position.a);
+    say(b", diverged ", machine.diverged().number() as u64);
+    io::write_all(1, b"\n");
 }
 
 fn say(label: &[u8], n: u64) {

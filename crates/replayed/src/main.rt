@@ -7,16 +7,22 @@ use hiskurdo::CursorNumbers;
 use hiskurdo::IdsNumbers;
 use hiskurdo::RecordNumbers;
 use hiskurdo::SpecNumbers;
+use hiskurdo::machines;
+use hiskurdo::machines::MachineAnswered;
+use hiskurdo::machines::MachineNumbers;
+use hiskurdo::machines::PendingNumbers;
+use hiskurdo::machines::RequestNumbers;
 
-// The allocator and the cursor that the calls work on.
+// The allocator, the cursor and the machine that the calls work on.
 struct Current {
     ids: IdsNumbers,
     cursor: CursorNumbers,
+    machine: MachineNumbers,
 }
 
 // The numbers of one line, and where the next line begins.
 struct Line {
-    values: [u64; 8],
+    values: [u64; 12],
     next: usize,
 }
 
@@ -30,6 +36,7 @@ fn replay(text: &[u8]) {
     let mut now = Current {
         ids: hiskurdo::hiskurdo_ids_for_run(0),
         cursor: hiskurdo::hiskurdo_cursor_new(0),
+        machine: machines::hiskurdo_machine_new(0),
     };
     let mut at: usize = 0;
     while at < text.len() {
@@ -41,12 +48,12 @@ fn replay(text: &[u8]) {
     }
 }
 
-// The decimal numbers of the line that begins at `at`, up to eight.
+// The decimal numbers of the line that begins at `at`, up to twelve.
 fn read_line(text: &[u8], at: usize) -> Line
     requires { ⌜ at < length (now text) ⌝ }
     ensures { λ r. ⌜ (at < r .next) × (r .next ≤ length (now (text .entry))) ⌝ }
 {
-    let mut values = [0u64; 8];
+    let mut values = [0u64; 12];
     let mut k: usize = 0;
     let mut next = at;
     while next < text.len() {
@@ -56,7 +63,7 @@ fn read_line(text: &[u8], at: usize) -> Line
             return Line { values, next };
         }
         if b == 32 {
-            k = (k + 1) % 8;
+            k = (k + 1) % 12;
         } else {
             values[k] = with_digit(values[k], b);
         }
@@ -86,7 +93,7 @@ fn with_digit(n: u64, b: u8) -> u64 {
 }
 
 // One call, by its number, with what it writes.
-fn call(now: Current, values: [u64; 8]) -> Current {
+fn call(now: Current, values: [u64; 12]) -> Current {
     let op = values[0];
     if op < 3 {
         successor_call(op, values[1]);
@@ -99,7 +106,14 @@ fn call(now: Current, values: [u64; 8]) -> Current {
         timer_call(op, values);
         return now;
     }
-    cursor_call(now, op, values)
+    if op < 14 {
+        return cursor_call(now, op, values);
+    }
+    if op == 20 {
+        divergence_call(values);
+        return now;
+    }
+    machine_call(now, op, values)
 }
 
 fn successor_call(op: u64, n: u64) {
@@ -110,17 +124,22 @@ fn successor_call(op: u64, n: u64) {
     }
 }
 
-fn ids_call(now: Current, op: u64, values: [u64; 8]) -> Current {
+fn ids_call(now: Current, op: u64, values: [u64; 12]) -> Current {
     let cursor = now.cursor;
+    let machine = now.machine;
     let old = now.ids;
     let ids = next_ids(old, op, values);
     number(hiskurdo::hiskurdo_ids_run(ids));
     io::write_all(1, b" ");
     say(hiskurdo::hiskurdo_ids_peek(ids));
-    Current { ids, cursor }
+    Current {
+        ids,
+        cursor,
+        machine,
+    }
 }
 
-fn next_ids(old: IdsNumbers, op: u64, values: [u64; 8]) -> IdsNumbers {
+fn next_ids(old: IdsNumbers, op: u64, values: [u64; 12]) -> IdsNumbers {
     if op == 3 {
         return hiskurdo::hiskurdo_ids_for_run(values[1]);
     }
@@ -133,7 +152,7 @@ fn next_ids(old: IdsNumbers, op: u64, values: [u64; 8]) -> IdsNumbers {
     allocated.ids
 }
 
-fn timer_call(op: u64, values: [u64; 8]) {
+fn timer_call(op: u64, values: [u64; 12]) {
     let spec = SpecNumbers {
         deadline: values[2],
         clock: low8(values[1]),
@@ -152,7 +171,7 @@ fn timer_call(op: u64, values: [u64; 8]) {
     }
 }
 
-fn admits_call(values: [u64; 8]) {
+fn admits_call(values: [u64; 12]) {
     let spec = SpecNumbers {
         deadline: values[3],
         clock: low8(values[2]),
@@ -160,30 +179,130 @@ fn admits_call(values: [u64; 8]) {
     say(hiskurdo::hiskurdo_admits(low8(values[1]), spec));
 }
 
-fn cursor_call(now: Current, op: u64, values: [u64; 8]) -> Current {
+fn cursor_call(now: Current, op: u64, values: [u64; 12]) -> Current {
     let ids = now.ids;
-    if op == 12 {
-        let cursor = hiskurdo::hiskurdo_cursor_new(values[1]);
-        readers(cursor);
-        return Current { ids, cursor };
+    let machine = now.machine;
+    let old = now.cursor;
+    let cursor = next_cursor(old, op, values);
+    readers(cursor);
+    Current {
+        ids,
+        cursor,
+        machine,
     }
-    let record = RecordNumbers {
-        kind: low8(values[1]),
-        clock: low8(values[2]),
-        a: low16(values[3]),
-        s: low32(values[4]),
-        d: values[5],
-        m: values[6],
-        start: values[7],
-    };
-    let advanced = hiskurdo::hiskurdo_cursor_advance(now.cursor, record);
+}
+
+fn next_cursor(old: CursorNumbers, op: u64, values: [u64; 12]) -> CursorNumbers {
+    if op == 12 {
+        return hiskurdo::hiskurdo_cursor_new(values[1]);
+    }
+    let record = record_at(values, 1);
+    let advanced = hiskurdo::hiskurdo_cursor_advance(old, record);
     say(advanced.answer);
     io::write_all(1, b" ");
     number(hiskurdo::hiskurdo_record_kind(record) as u64);
     io::write_all(1, b" ");
-    let cursor = advanced.cursor;
-    readers(cursor);
-    Current { ids, cursor }
+    advanced.cursor
+}
+
+// The record whose seven numbers begin at `at`, at most at 5.
+fn record_at(values: [u64; 12], at: usize) -> RecordNumbers {
+    let i = at % 6;
+    RecordNumbers {
+        kind: low8(values[i]),
+        clock: low8(values[i + 1]),
+        a: low16(values[i + 2]),
+        s: low32(values[i + 3]),
+        d: values[i + 4],
+        m: values[i + 5],
+        start: values[i + 6],
+    }
+}
+
+fn machine_call(now: Current, op: u64, values: [u64; 12]) -> Current {
+    let ids = now.ids;
+    let cursor = now.cursor;
+    let old = now.machine;
+    let machine = next_machine(old, op, values);
+    machine_readers(machine);
+    Current {
+        ids,
+        cursor,
+        machine,
+    }
+}
+
+fn next_machine(old: MachineNumbers, op: u64, values: [u64; 12]) -> MachineNumbers {
+    if op == 14 {
+        return machines::hiskurdo_machine_new(values[1]);
+    }
+    let done = machine_answer(old, op, values);
+    say(done.answer);
+    io::write_all(1, b" ");
+    done.machine
+}
+
+fn machine_answer(old: MachineNumbers, op: u64, values: [u64; 12]) -> MachineAnswered {
+    let spec = SpecNumbers {
+        deadline: values[2],
+        clock: low8(values[1]),
+    };
+    match op {
+        15 => machines::hiskurdo_machine_advance(old, record_at(values, 1)),
+        16 => machines::hiskurdo_machine_intent(
+            old,
+            request(values),
+            low8(values[4]),
+            record_at(values, 5),
+        ),
+        17 => machines::hiskurdo_machine_outcome(old, low8(values[1]), record_at(values, 2)),
+        18 => machines::hiskurdo_machine_timer_intent(
+            old,
+            spec,
+            low8(values[3]),
+            low8(values[4]),
+            record_at(values, 5),
+        ),
+        _ => machines::hiskurdo_machine_timer_outcome(old, low8(values[1]), record_at(values, 2)),
+    }
+}
+
+fn request(values: [u64; 12]) -> RequestNumbers {
+    RequestNumbers {
+        input_crc: low32(values[3]),
+        kind: low16(values[1]),
+        input_len: low16(values[2]),
+    }
+}
+
+fn divergence_call(values: [u64; 12]) {
+    let recorded = PendingNumbers {
+        run: values[4],
+        seq: low32(values[5]),
+        input_crc: low32(values[8]),
+        kind: low16(values[6]),
+        input_len: low16(values[7]),
+    };
+    let asked = request(values);
+    number(
+        machines::hiskurdo_divergence_from(asked, recorded, values[9], low32(values[10])) as u64,
+    );
+}
+
+// What every reader of the machine says.
+fn machine_readers(machine: MachineNumbers) {
+    number(machines::hiskurdo_machine_run(machine));
+    let position = machines::hiskurdo_machine_position(machine);
+    io::write_all(1, b" ");
+    number(position.number);
+    io::write_all(1, b" ");
+    number(position.a);
+    io::write_all(1, b" ");
+    say(machines::hiskurdo_machine_pending(machine));
+    io::write_all(1, b" ");
+    say(machines::hiskurdo_machine_pending_timer(machine));
+    io::write_all(1, b" ");
+    number(machines::hiskurdo_machine_diverged(machine) as u64);
 }
 
 // What every reader of the cursor says.

@@ -8,6 +8,5 @@ pub advanced-numbers-spec : {M : Type 1} → statement M
 advanced-numbers-spec =
     tie.close
     (tie.spec
-    (λ c κs. search needs)
-    (λ c κs. search needs)
+    (λ c κs. search needs) (λ c κs. search needs)
     (λ c. cc))

@@ -8,6 +8,5 @@ pub allocated-numbers-spec : {M : Type 1} → statement M
 allocated-numbers-spec =
     tie.close
     (tie.spec
-    (λ c κs. search needs)
-    (λ c κs. search needs)
+    (λ c κs. search needs) (λ c κs. search needs)
     (λ c. cc))

@@ -8,6 +8,5 @@ pub cursor-of-spec : {M : Type 1} → statement M
 cursor-of-spec =
     tie.close
     (tie.spec
-    (λ c κs. search needs)
-    (λ c κs. search needs)
+    (λ c κs. search needs) (λ c κs. search needs)
     (λ c. cc))

@@ -8,8 +8,5 @@ pub hiskurdo-cursor-advance-spec : {M : Type 1} → statement M
 hiskurdo-cursor-advance-spec =
     tie.close
     (tie.spec
-    (λ c κs. search needs)
-    (λ c κs. search needs)
-    (λ c κs. search needs)
-    (λ c κs. search needs)
+    (λ c κs. search needs) (λ c κs. search needs) (λ c κs. search needs) (λ c κs. search needs)
     (λ c. cc))

@@ -8,8 +8,5 @@ pub hiskurdo-cursor-is-terminal-spec : {M : Type 1} → statement M
 hiskurdo-cursor-is-terminal-spec =
     tie.close
     (tie.spec
-    (λ c κs. search needs)
-    (λ c κs. search needs)
-    (λ c κs. search needs)
-    (λ c κs. search needs)
+    (λ c κs. search needs) (λ c κs. search needs) (λ c κs. search needs) (λ c κs. search needs)
     (λ c. rw (c .flag .ensures, c .before .is-terminal .ensures, c .before .before .position .ensures, c .before .before .before .cursor-of .ensures)))

@@ -8,7 +8,5 @@ pub hiskurdo-cursor-next-effect-id-spec : {M : Type 1} → statement M
 hiskurdo-cursor-next-effect-id-spec =
     tie.close
     (tie.spec
-    (λ c κs. search needs)
-    (λ c κs. search needs)
-    (λ c κs. search needs)
+    (λ c κs. search needs) (λ c κs. search needs) (λ c κs. search needs)
     (λ c. rw (c .told .ensures, c .before .next-effect-id .ensures, c .before .before .cursor-of .ensures)))

@@ -8,7 +8,5 @@ pub hiskurdo-cursor-next-seq-spec : {M : Type 1} → statement M
 hiskurdo-cursor-next-seq-spec =
     tie.close
     (tie.spec
-    (λ c κs. search needs)
-    (λ c κs. search needs)
-    (λ c κs. search needs)
+    (λ c κs. search needs) (λ c κs. search needs) (λ c κs. search needs)
     (λ c. rw (c .told .ensures, c .before .next-seq .ensures, c .before .before .cursor-of .ensures)))

@@ -8,7 +8,5 @@ pub hiskurdo-cursor-pending-spec : {M : Type 1} → statement M
 hiskurdo-cursor-pending-spec =
     tie.close
     (tie.spec
-    (λ c κs. search needs)
-    (λ c κs. search needs)
-    (λ c κs. search needs)
+    (λ c κs. search needs) (λ c κs. search needs) (λ c κs. search needs)
     (λ c. rw (c .told .ensures, c .before .pending .ensures, c .before .before .cursor-of .ensures)))

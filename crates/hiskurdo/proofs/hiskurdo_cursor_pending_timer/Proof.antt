@@ -8,7 +8,5 @@ pub hiskurdo-cursor-pending-timer-spec : {M : Type 1} → statement M
 hiskurdo-cursor-pending-timer-spec =
     tie.close
     (tie.spec
-    (λ c κs. search needs)
-    (λ c κs. search needs)
-    (λ c κs. search needs)
+    (λ c κs. search needs) (λ c κs. search needs) (λ c κs. search needs)
     (λ c. rw (c .told .ensures, c .before .pending-timer .ensures, c .before .before .cursor-of .ensures)))

@@ -8,7 +8,5 @@ pub hiskurdo-cursor-position-spec : {M : Type 1} → statement M
 hiskurdo-cursor-position-spec =
     tie.close
     (tie.spec
-    (λ c κs. search needs)
-    (λ c κs. search needs)
-    (λ c κs. search needs)
+    (λ c κs. search needs) (λ c κs. search needs) (λ c κs. search needs)
     (λ c. rw (c .told .ensures, c .before .position .ensures, c .before .before .cursor-of .ensures)))

@@ -8,6 +8,5 @@ pub hiskurdo-cursor-run-spec : {M : Type 1} → statement M
 hiskurdo-cursor-run-spec =
     tie.close
     (tie.spec
-    (λ c κs. search needs)
-    (λ c κs. search needs)
+    (λ c κs. search needs) (λ c κs. search needs)
     (λ c. rw (c .run .ensures, c .before .cursor-of .ensures)))

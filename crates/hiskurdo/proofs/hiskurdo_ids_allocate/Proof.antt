@@ -8,7 +8,5 @@ pub hiskurdo-ids-allocate-spec : {M : Type 1} → statement M
 hiskurdo-ids-allocate-spec =
     tie.close
     (tie.spec
-    (λ c κs. search needs)
-    (λ c κs. search needs)
-    (λ c κs. search needs)
+    (λ c κs. search needs) (λ c κs. search needs) (λ c κs. search needs)
     (λ c. rw (c .allocated-numbers .ensures, c .before .allocate .ensures, c .before .before .ids-of .ensures)))

@@ -8,6 +8,5 @@ pub hiskurdo-ids-for-run-spec : {M : Type 1} → statement M
 hiskurdo-ids-for-run-spec =
     tie.close
     (tie.spec
-    (λ c κs. search needs)
-    (λ c κs. search needs)
+    (λ c κs. search needs) (λ c κs. search needs)
     (λ c. cc))

@@ -8,7 +8,5 @@ pub hiskurdo-ids-peek-spec : {M : Type 1} → statement M
 hiskurdo-ids-peek-spec =
     tie.close
     (tie.spec
-    (λ c κs. search needs)
-    (λ c κs. search needs)
-    (λ c κs. search needs)
+    (λ c κs. search needs) (λ c κs. search needs) (λ c κs. search needs)
     (λ c. rw (c .told .ensures, c .before .peek .ensures, c .before .before .ids-of .ensures)))

@@ -8,7 +8,5 @@ pub hiskurdo-ids-resume-spec : {M : Type 1} → statement M
 hiskurdo-ids-resume-spec =
     tie.close
     (tie.spec
-    (λ c κs. search needs)
-    (λ c κs. search needs)
-    (λ c κs. search needs)
+    (λ c κs. search needs) (λ c κs. search needs) (λ c κs. search needs)
     (λ c. rw (c .ids-numbers .ensures, c .before .resume .ensures, c .before .before .seq-option-of .ensures)))

@@ -8,6 +8,5 @@ pub hiskurdo-record-kind-spec : {M : Type 1} → statement M
 hiskurdo-record-kind-spec =
     tie.close
     (tie.spec
-    (λ c κs. search needs)
-    (λ c κs. search needs)
+    (λ c κs. search needs) (λ c κs. search needs)
     (λ c. rw (c .kind .ensures, c .before .record-of .ensures)))

@@ -8,6 +8,5 @@ pub hiskurdo-run-successor-spec : {M : Type 1} → statement M
 hiskurdo-run-successor-spec =
     tie.close
     (tie.spec
-    (λ c κs. search needs)
-    (λ c κs. search needs)
+    (λ c κs. search needs) (λ c κs. search needs)
     (λ c. cc))

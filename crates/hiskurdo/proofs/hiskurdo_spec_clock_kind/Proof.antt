@@ -8,6 +8,5 @@ pub hiskurdo-spec-clock-kind-spec : {M : Type 1} → statement M
 hiskurdo-spec-clock-kind-spec =
     tie.close
     (tie.spec
-    (λ c κs. search needs)
-    (λ c κs. search needs)
+    (λ c κs. search needs) (λ c κs. search needs)
     (λ c. cc))

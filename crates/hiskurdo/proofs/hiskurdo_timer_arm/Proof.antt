@@ -8,8 +8,5 @@ pub hiskurdo-timer-arm-spec : {M : Type 1} → statement M
 hiskurdo-timer-arm-spec =
     tie.close
     (tie.spec
-    (λ c κs. search needs)
-    (λ c κs. search needs)
-    (λ c κs. search needs)
-    (λ c κs. search needs)
+    (λ c κs. search needs) (λ c κs. search needs) (λ c κs. search needs) (λ c κs. search needs)
     (λ c. cc))

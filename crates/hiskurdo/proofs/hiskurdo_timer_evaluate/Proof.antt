@@ -8,7 +8,5 @@ pub hiskurdo-timer-evaluate-spec : {M : Type 1} → statement M
 hiskurdo-timer-evaluate-spec =
     tie.close
     (tie.spec
-    (λ c κs. search needs)
-    (λ c κs. search needs)
-    (λ c κs. search needs)
+    (λ c κs. search needs) (λ c κs. search needs) (λ c κs. search needs)
     (λ c. cc))

@@ -11,7 +11,6 @@ pub ids-numbers-spec : {M : Type 1} → statement M
 ids-numbers-spec =
     tie.close
     (tie.spec
-    (λ c. search needs)
-    (λ c. search needs)
+    (λ c. search needs) (λ c. search needs)
     (λ c. by-arm (idsNumbersFor (c .before .before .before .args .ids .run .0)) (c .before .next .given .1) refl)
     (λ c. by-arm (idsNumbersFor (c .before .before .args .ids .run .0)) (c .enum-told .given .1) refl))

@@ -10,15 +10,8 @@ pub state-numbers-spec : {M : Type 1} → statement M
 state-numbers-spec =
     tie.close
     (tie.spec
-    (λ c κs. search needs)
-    (λ c. search needs)
-    (λ c. search needs)
-    (λ c. search needs)
-    (λ c. search needs)
-    (λ c. search needs)
-    (λ c. search needs)
-    (λ c. search needs)
-    (λ c κs. search needs)
+    (λ c κs. search needs) (λ c. search needs) (λ c. search needs) (λ c. search needs) (λ c. search needs)
+    (λ c. search needs) (λ c. search needs) (λ c. search needs) (λ c κs. search needs)
     (λ c. by-arm (cursorNumbersFor (c .before .before .before .args .ids)) (c .enum-told .given .1) (rw (c .before .before .bare-numbers .ensures)))
     (λ c. by-arm (cursorNumbersFor (c .before .before .before .args .ids)) (c .enum-told2 .given .1) (rw (c .before .before .bare-numbers .ensures)))
     (λ c. by-arm (cursorNumbersFor (c .before .before .before .before .args .ids)) (c .before .state .given .1) (rw (c .before .before .before .bare-numbers .ensures)))

@@ -6,10 +6,10 @@ use Rattle.numbering.proofs.walk.Statement.{statement}
 use Rattle.numbering.proofs.walk.Tie as tie
 
 abbrev Inv-loop : tie.InvT-loop
-Inv-loop cursor₀ markers₀ cursor markers = markers ≤ 4294967296
+Inv-loop machine₀ markers₀ machine markers = markers ≤ 4294967296
 
 abbrev μ-loop : tie.MeasureT-loop
-μ-loop cursor₀ markers₀ cursor markers = 4294967296 - markers
+μ-loop machine₀ markers₀ machine markers = 4294967296 - markers
 
 pub walk-spec : {M : Type 1} → statement M
 walk-spec =
@@ -17,16 +17,6 @@ walk-spec =
     (tie.spec
     Inv-loop
     μ-loop
-    (λ c κs. search needs)
-    (λ c κs. search needs)
-    (λ c. search needs)
-    (λ c. search needs)
-    (λ c κs. search needs)
-    (λ c κs. search needs)
-    (λ c. search needs)
-    (λ c. search needs)
-    (λ c. search needs)
-    (λ c. search needs)
-    (λ c. search needs)
-    (λ c. search needs)
-    (λ c. search needs))
+    (λ c κs. tt) (λ c κs. tt) (λ c κs. tt) (λ c. search needs) (λ c. search needs) (λ c κs. tt) (λ c κs. tt)
+    (λ c. search needs) (λ c. search needs) (λ c. search needs) (λ c. search needs) (λ c. search needs)
+    (λ c. search needs) (λ c. search needs))

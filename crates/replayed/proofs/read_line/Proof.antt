@@ -1,4 +1,4 @@
--- `read_line` meets its contract: each turn takes one byte, and the place among the numbers stays below eight.
+-- `read_line` meets its contract: each turn takes one byte, and the place among the numbers stays below twelve.
 -- Assumes nothing.
 use Prim.Native.Nat.{_≤_, _<_, _-_}
 use borrow.Author.Needs.{needs}
@@ -7,7 +7,7 @@ use Rattle.replayed.proofs.read_line.Statement.{statement}
 use Rattle.replayed.proofs.read_line.Tie as tie
 
 abbrev Inv-loop : tie.InvT-loop
-Inv-loop text at values₀ k₀ next₀ values k next = (at ≤ next) × ((next ≤ length text) × (k < 8))
+Inv-loop text at values₀ k₀ next₀ values k next = (at ≤ next) × ((next ≤ length text) × (k < 12))
 
 abbrev μ-loop : tie.MeasureT-loop
 μ-loop text at values₀ k₀ next₀ values k next = length text - next

@@ -11,13 +11,8 @@ pub told-spec : {M : Type 1} → statement M
 told-spec =
     tie.close
     (tie.spec
-    (λ c. search needs)
-    (λ c κs. search needs)
-    (λ c. search needs)
-    (λ c κs. search needs)
-    (λ c κs. search needs)
-    (λ c. search needs)
-    (λ c κs. search needs)
+    (λ c. search needs) (λ c κs. search needs) (λ c. search needs) (λ c κs. search needs) (λ c κs. search needs)
+    (λ c. search needs) (λ c κs. search needs)
     (λ c. by-arm timerSpecOptionTold (c .before .before .before .before .before .self .given .1)
     (c .new .ensures ∙ rw (c .before .before .before .clock-kind .ensures, c .before .deadline .ensures)))
     (λ c. by-arm timerSpecOptionTold (c .before .enum-told .given .1) (c .new2 .ensures)))

@@ -1,0 +1,167 @@
+//! The Rust source's machine: its calls, and its answers told in numbers.
+
+use waymaker_core::{
+    ActivityKind, Divergence, EffectId, EffectRequest, EffectSeq, Intent, KernelError, Next,
+    Outcome, PendingEffect, ReplayMachine, Resolve, RunId, TimerIntent, TimerRequest, TimerResolve,
+};
+
+use crate::calls::{Call, MachineRead, NextNumbers};
+use crate::ffi::{PendingNumbers, RecordNumbers, RequestNumbers, Told};
+use crate::rust_side::{
+    capability_of, id_values, place_of, record_of, spec_of, told, told_error, told_outcome,
+    told_pending, told_pending_timer, told_position, told_step,
+};
+
+pub fn call(machine: &mut ReplayMachine, call: &Call) -> Told {
+    match *call {
+        Call::MachineAdvance(record) => advance(machine, &record),
+        Call::Intent { request, next } => told_result(
+            machine.intent(request_of(request), next_of(&next)),
+            told_intent,
+        ),
+        Call::Outcome(next) => told_result(machine.outcome(next_of(&next)), told_resolve),
+        Call::TimerIntent {
+            spec,
+            capability,
+            next,
+        } => {
+            let request = TimerRequest {
+                spec: spec_of(spec),
+                capability: capability_of(capability),
+            };
+            told_result(
+                machine.timer_intent(request, next_of(&next)),
+                told_timer_intent,
+            )
+        }
+        Call::TimerOutcome(next) => {
+            told_result(machine.timer_outcome(next_of(&next)), told_timer_resolve)
+        }
+        _ => unreachable!("not a machine's call"),
+    }
+}
+
+pub fn advance(machine: &mut ReplayMachine, record: &RecordNumbers) -> Told {
+    told_result(machine.advance(record_of(record)), |step| told_step(&step))
+}
+
+pub fn read(machine: &ReplayMachine) -> MachineRead {
+    MachineRead {
+        run: machine.run().0,
+        position: told_position(machine.position()),
+        pending: told_pending(machine.pending()),
+        pending_timer: told_pending_timer(machine.pending_timer()),
+        diverged: divergence_number(machine.diverged()),
+    }
+}
+
+/// The number that is open, or that an effect at the end of history would have.
+/// Where there is none, the last one stands in. The machine may change: it is a copy.
+pub fn number(machine: &mut ReplayMachine) -> u32 {
+    if let Some(effect) = machine.pending() {
+        return effect.id.seq.0;
+    }
+    if let Some(timer) = machine.pending_timer() {
+        return timer.id.seq.0;
+    }
+    match machine.intent(request_of(RequestNumbers::default()), Next::EndOfHistory) {
+        Ok(Intent::Schedule { id }) => id.seq.0,
+        _ => u32::MAX,
+    }
+}
+
+pub fn divergence(request: RequestNumbers, recorded: PendingNumbers, run: u64, seq: u32) -> u8 {
+    let recorded = PendingEffect {
+        id: id_of(recorded.run, recorded.seq),
+        kind: ActivityKind(recorded.kind),
+        input_len: recorded.input_len,
+        input_crc: recorded.input_crc,
+    };
+    divergence_number(request_of(request).divergence_from(&recorded, id_of(run, seq)))
+}
+
+fn divergence_number(divergence: Option<Divergence>) -> u8 {
+    match divergence {
+        None => 0,
+        Some(Divergence::Sequence) => 1,
+        Some(Divergence::Kind) => 2,
+        Some(Divergence::Digest) => 3,
+        Some(Divergence::BoundaryKind) => 4,
+        Some(Divergence::Gate) => 5,
+        Some(Divergence::Deadline) => 6,
+        Some(Divergence::Boundary) => 7,
+    }
+}
+
+fn id_of(run: u64, seq: u32) -> EffectId {
+    EffectId {
+        run: RunId(run),
+        seq: EffectSeq(seq),
+    }
+}
+
+fn request_of(request: RequestNumbers) -> EffectRequest {
+    EffectRequest {
+        kind: ActivityKind(request.kind),
+        input_len: request.input_len,
+        input_crc: request.input_crc,
+    }
+}
+
+fn next_of(next: &NextNumbers) -> Next<'static> {
+    match next.ended {
+        0 => Next::Record(record_of(&next.record)),
+        _ => Next::EndOfHistory,
+    }
+}
+
+fn told_result<T>(result: Result<T, KernelError>, told: impl FnOnce(T) -> Told) -> Told {
+    match result {
+        Ok(answer) => told(answer),
+        Err(error) => told_error(error),
+    }
+}
+
+fn told_intent(intent: Intent<'_>) -> Told {
+    match intent {
+        Intent::Recorded { id } => told(1, &id_values(id)),
+        Intent::Schedule { id } => told(2, &id_values(id)),
+        Intent::Finished { outcome } => told_finished(outcome),
+    }
+}
+
+fn told_timer_intent(intent: TimerIntent<'_>) -> Told {
+    match intent {
+        TimerIntent::Recorded { id } => told(1, &id_values(id)),
+        TimerIntent::Schedule { id } => told(2, &id_values(id)),
+        TimerIntent::Finished { outcome } => told_finished(outcome),
+    }
+}
+
+fn told_finished(outcome: Outcome<'_>) -> Told {
+    match outcome {
+        Outcome::Completed(body) => told(7, &place_of(body)),
+        Outcome::Failed(body) => told(8, &place_of(body)),
+    }
+}
+
+fn told_resolve(resolve: Resolve<'_>) -> Told {
+    match resolve {
+        Resolve::Replayed { id, outcome } => match outcome {
+            Outcome::Completed(body) => told_outcome(3, id, body),
+            Outcome::Failed(body) => told_outcome(4, id, body),
+        },
+        Resolve::Redeliver { id } => told(1, &id_values(id)),
+    }
+}
+
+fn told_timer_resolve(resolve: TimerResolve) -> Told {
+    match resolve {
+        TimerResolve::Fired { id } => told(6, &id_values(id)),
+        TimerResolve::Rearm { id, spec, armed_at } => {
+            let [run, seq] = id_values(id);
+            let clock = spec.clock_kind().0.into();
+            told(1, &[run, seq, clock, spec.deadline(), armed_at])
+        }
+    }
+}

@@ -1,0 +1,12 @@
+-- `machines::answered` meets its contract: field by field.
+-- Assumes nothing.
+use borrow.Author.Needs.{needs}
+use Rattle.hiskurdo.proofs.machines.answered.Statement.{statement}
+use Rattle.hiskurdo.proofs.machines.answered.Tie as tie
+
+pub answered-spec : {M : Type 1} → statement M
+answered-spec =
+    tie.close
+    (tie.spec
+    (λ c κs. search needs)
+    (λ c. rw (c .machine-numbers .ensures)))

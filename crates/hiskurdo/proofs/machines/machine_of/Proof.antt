@@ -1,0 +1,12 @@
+-- `machines::machine_of` meets its contract: field by field.
+-- Assumes nothing.
+use borrow.Author.Needs.{needs}
+use Rattle.hiskurdo.proofs.machines.machine_of.Statement.{statement}
+use Rattle.hiskurdo.proofs.machines.machine_of.Tie as tie
+
+pub machine-of-spec : {M : Type 1} → statement M
+machine-of-spec =
+    tie.close
+    (tie.spec
+    (λ c κs. search needs) (λ c κs. search needs)
+    (λ c. rw (c .phase-of .ensures, c .before .cursor-of .ensures)))
