@@ -171,52 +171,31 @@ fn timers_at_the_end(machine: ReplayMachine) {
     let boot = ClockCapability::BootOnly;
     let both = ClockCapability::Persistent;
     timer_intent(
-        b"timer_intent, end of history, no such clock: ",
+        b"end of history, no such clock: ",
         machine,
         boot,
         Next::EndOfHistory,
     );
     timer_intent(
-        b"timer_intent, end of history, admitted: ",
+        b"end of history, admitted: ",
         machine,
         both,
         Next::EndOfHistory,
     );
+    timer_on(b"own timer: ", machine, timer(2));
+    timer_on(b"own timer, unknown clock: ", machine, timer(0));
+    timer_on(b"schedule: ", machine, schedule());
+    timer_on(b"marker: ", machine, marker(0));
+    timer_on(b"run completed: ", machine, completed());
+    timer_on(b"run failed: ", machine, failed());
+}
+
+fn timer_on(label: &[u8], machine: ReplayMachine, record: RecordRef) {
     timer_intent(
-        b"timer_intent, own timer: ",
+        label,
         machine,
-        both,
-        Next::Record(timer(2)),
-    );
-    timer_intent(
-        b"timer_intent, own timer, unknown clock: ",
-        machine,
-        both,
-        Next::Record(timer(0)),
-    );
-    timer_intent(
-        b"timer_intent, schedule: ",
-        machine,
-        both,
-        Next::Record(schedule()),
-    );
-    timer_intent(
-        b"timer_intent, marker: ",
-        machine,
-        both,
-        Next::Record(marker(0)),
-    );
-    timer_intent(
-        b"timer_intent, run completed: ",
-        machine,
-        both,
-        Next::Record(completed()),
-    );
-    timer_intent(
-        b"timer_intent, run failed: ",
-        machine,
-        both,
-        Next::Record(failed()),
+        ClockCapability::Persistent,
+        Next::Record(record),
     );
 }
 
@@ -228,6 +207,7 @@ fn timer_intent(label: &[u8], machine: ReplayMachine, capability: ClockCapabilit
     let done = machine.timer_intent(request, next);
     let answer = done.answer;
     let after = done.machine;
+    io::write_all(1, b"timer_intent, ");
     io::write_all(1, label);
     answered(answer.told().number, after);
 }
