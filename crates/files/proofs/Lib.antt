@@ -1,0 +1,6 @@
+pub mod Bytes
+pub mod Checks
+pub mod Limits
+pub mod Header
+pub mod Steps
+pub mod Passing
