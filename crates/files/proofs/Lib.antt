@@ -4,3 +4,5 @@ pub mod Limits
 pub mod Header
 pub mod Steps
 pub mod Passing
+pub mod Laws
+pub mod Canonical

@@ -2,3 +2,4 @@ pub mod Fields
 pub mod Entries
 pub mod Reading
 pub mod Contents
+pub mod Encoding
