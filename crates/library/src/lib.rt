@@ -1,0 +1,257 @@
+// What Rust or C calls: files as byte slices, answers as plain numbers.
+//
+// Owns: the numbers of each answer at the boundary. Must not own: any rule; each export is one call of the library.
+// Defends: any bytes and any numbers may be passed; no export has a `requires`.
+ghost use mathlib.Core.Path.{_≡_};
+ghost use Rattle.files.specs.Reading.{journalRule, planRule};
+ghost use Rattle.files.specs.Contents.{nextRecord, nextStep};
+ghost use Rattle.files.specs.Encoding.{entryWith, recordEntry, stepEntry};
+ghost use Rattle.library.specs.Numbers.{capabilityNumber, journalNumbers, planNumbers, recordBody, stepBody, entryNumbers, nothing, recordNumbers, stepNumbers};
+use clocks::ClockCapability;
+use clocks::TimerSpec;
+use files::Entry;
+use files::JournalRead;
+use files::PlanRead;
+use files::PlanStep;
+use files::RecordOption;
+use files::StepOption;
+use files::Walk;
+use files::reading;
+use files::walking;
+use records::Body;
+use records::RecordRef;
+
+// What reading says: a refusal's number and place; or 0, with the run number or the capability, and the count.
+#[repr(C)]
+pub struct ReadNumbers {
+    pub number: u64,
+    pub place: u64,
+    pub head: u64,
+    pub count: u64,
+}
+
+// A record or a step by the fields of its entry, with its body and the walk past it; kind 0 where nothing stands there.
+#[repr(C)]
+pub struct EntryNumbers {
+    pub kind: u64,
+    pub clock: u64,
+    pub a: u64,
+    pub s: u64,
+    pub d: u64,
+    pub m: u64,
+    pub start: u64,
+    pub len: u64,
+    pub next_entry: u64,
+    pub next_body: u64,
+}
+
+fn capability_number(capability: ClockCapability) -> u64
+    ensures { λ r. ⌜ r ≡ capabilityNumber capability ⌝ }
+{
+    match capability {
+        ClockCapability::BootOnly => 0,
+        ClockCapability::Persistent => 1,
+    }
+}
+
+#[no_mangle]
+pub extern "C" fn hiskurdo_read_journal(file: &[u8]) -> ReadNumbers
+    ensures { λ r. ⌜ r ≡ journalNumbers (journalRule (now (file .entry))) ⌝ }
+{
+    match reading::read_journal(file) {
+        JournalRead::Refused { number, place } => ReadNumbers {
+            number,
+            place,
+            head: 0,
+            count: 0,
+        },
+        JournalRead::Readable { run, count } => ReadNumbers {
+            number: 0,
+            place: 0,
+            head: run.0,
+            count: count as u64,
+        },
+    }
+}
+
+#[no_mangle]
+pub extern "C" fn hiskurdo_read_plan(file: &[u8]) -> ReadNumbers
+    ensures { λ r. ⌜ r ≡ planNumbers (planRule (now (file .entry))) ⌝ }
+{
+    match reading::read_plan(file) {
+        PlanRead::Refused { number, place } => ReadNumbers {
+            number,
+            place,
+            head: 0,
+            count: 0,
+        },
+        PlanRead::Readable { capability, count } => ReadNumbers {
+            number: 0,
+            place: 0,
+            head: capability_number(capability),
+            count: count as u64,
+        },
+    }
+}
+
+fn entry_with(kind: u8, clock: u8, a: u16, s: u32, d: u64, m: u64) -> Entry
+    ensures { λ r. ⌜ r ≡ entryWith kind clock a s d m ⌝ }
+{
+    Entry {
+        kind,
+        clock,
+        a,
+        s,
+        d,
+        m,
+    }
+}
+
+// The entry that says this record.
+fn record_entry(record: RecordRef) -> Entry
+    ensures { λ r. ⌜ r ≡ recordEntry «record» ⌝ }
+{
+    match record {
+        RecordRef::RunStarted {
+            workflow_kind,
+            workflow_version,
+            input,
+        } => {
+            entry_with(
+                1,
+                0,
+                workflow_kind,
+                0,
+                workflow_version as u64,
+                input.len as u64,
+            )
+        }
+        RecordRef::EffectScheduled {
+            seq,
+            kind,
+            input_len,
+            input_crc,
+        } => { entry_with(2, 0, kind.0, seq.0, input_len as u64, input_crc as u64) }
+        RecordRef::EffectCompleted { seq, result } => entry_with(
+            3,
+            0,
+            0,
+            seq.0,
+            0,
+            result.len as u64,
+        ),
+        RecordRef::EffectFailed { seq, error } => entry_with(4, 0, 0, seq.0, 0, error.len as u64),
+        RecordRef::TimerScheduled {
+            seq,
+            clock_kind,
+            deadline,
+            armed_at,
+        } => { entry_with(5, clock_kind.0, 0, seq.0, deadline, armed_at) }
+        RecordRef::TimerFired { seq } => entry_with(6, 0, 0, seq.0, 0, 0),
+        RecordRef::RunCompleted { result } => entry_with(7, 0, 0, 0, 0, result.len as u64),
+        RecordRef::RunFailed { error } => entry_with(8, 0, 0, 0, 0, error.len as u64),
+        RecordRef::VersionMarker { seq, gate, version } => {
+            entry_with(9, 0, gate.0, seq.0, version as u64, 0)
+        }
+    }
+}
+
+// The body that a record has, or the empty one at 0.
+fn record_body(record: RecordRef) -> Body
+    ensures { λ r. ⌜ r ≡ recordBody «record» ⌝ }
+{
+    match record {
+        RecordRef::RunStarted { input, .. } => input,
+        RecordRef::EffectScheduled { .. } => Body { start: 0, len: 0 },
+        RecordRef::EffectCompleted { result, .. } => result,
+        RecordRef::EffectFailed { error, .. } => error,
+        RecordRef::TimerScheduled { .. } => Body { start: 0, len: 0 },
+        RecordRef::TimerFired { .. } => Body { start: 0, len: 0 },
+        RecordRef::RunCompleted { result } => result,
+        RecordRef::RunFailed { error } => error,
+        RecordRef::VersionMarker { .. } => Body { start: 0, len: 0 },
+    }
+}
+
+fn entry_numbers(e: Entry, body: Body, next: Walk) -> EntryNumbers
+    ensures { λ r. ⌜ r ≡ entryNumbers e body next ⌝ }
+{
+    EntryNumbers {
+        kind: e.kind as u64,
+        clock: e.clock as u64,
+        a: e.a as u64,
+        s: e.s as u64,
+        d: e.d,
+        m: e.m,
+        start: body.start as u64,
+        len: body.len as u64,
+        next_entry: next.entry as u64,
+        next_body: next.body as u64,
+    }
+}
+
+fn nothing_here(walk: Walk) -> EntryNumbers
+    ensures { λ r. ⌜ r ≡ nothing walk ⌝ }
+{
+    entry_numbers(
+        entry_with(0, 0, 0, 0, 0, 0),
+        Body { start: 0, len: 0 },
+        walk,
+    )
+}
+
+#[no_mangle]
+pub extern "C" fn hiskurdo_next_record(file: &[u8], entry: u64, body: u64) -> EntryNumbers
+    ensures { λ r. ⌜ r ≡ recordNumbers (record { entry = entry; body = body }) (nextRecord (now (file .entry)) (record { entry = entry; body = body })) ⌝ }
+{
+    let walk = Walk {
+        entry: entry as usize,
+        body: body as usize,
+    };
+    match walking::next_record(file, walk) {
+        RecordOption::Some { record, next } => {
+            entry_numbers(record_entry(record), record_body(record), next)
+        }
+        RecordOption::None => nothing_here(walk),
+    }
+}
+
+// The entry that says this step.
+fn step_entry(step: PlanStep) -> Entry
+    ensures { λ r. ⌜ r ≡ stepEntry step ⌝ }
+{
+    match step {
+        PlanStep::Effect {
+            kind,
+            input_len,
+            input_crc,
+            ..
+        } => { entry_with(2, 0, kind.0, 0, input_len as u64, input_crc as u64) }
+        PlanStep::Timer { spec } => entry_with(5, spec.clock_kind().0, 0, 0, spec.deadline(), 0),
+    }
+}
+
+fn step_body(step: PlanStep) -> Body
+    ensures { λ r. ⌜ r ≡ stepBody step ⌝ }
+{
+    match step {
+        PlanStep::Effect { input, .. } => input,
+        PlanStep::Timer { .. } => Body { start: 0, len: 0 },
+    }
+}
+
+#[no_mangle]
+pub extern "C" fn hiskurdo_next_step(file: &[u8], entry: u64, body: u64) -> EntryNumbers
+    ensures { λ r. ⌜ r ≡ stepNumbers (record { entry = entry; body = body }) (nextStep (now (file .entry)) (record { entry = entry; body = body })) ⌝ }
+{
+    let walk = Walk {
+        entry: entry as usize,
+        body: body as usize,
+    };
+    match walking::next_step(file, walk) {
+        StepOption::Some { step, next } => {
+            entry_numbers(step_entry(step), step_body(step), next)
+        }
+        StepOption::None => nothing_here(walk),
+    }
+}
