@@ -27,19 +27,19 @@ capabilityNumber ClockCapability.BootOnly = 0
 capabilityNumber ClockCapability.Persistent = 1
 
 -- a refusal has its number and place; a readable file has 0, and what its header says
-abbrev pub refused : ℕ → ℕ → ReadNumbers
-refused number place = record { number = number; place = place; head = 0; count = 0 }
+abbrev pub refusedNumbers : ℕ → ℕ → ReadNumbers
+refusedNumbers number place = record { number = number; place = place; head = 0; count = 0 }
 
-abbrev pub readable : ℕ → ℕ → ReadNumbers
-readable head count = record { number = 0; place = 0; head = head; count = count }
+abbrev pub readableNumbers : ℕ → ℕ → ReadNumbers
+readableNumbers head count = record { number = 0; place = 0; head = head; count = count }
 
 abbrev pub journalNumbers : JournalRead → ReadNumbers
-journalNumbers (JournalRead.Refused number place) = refused number place
-journalNumbers (JournalRead.Readable run count) = readable (run .0) count
+journalNumbers (JournalRead.Refused number place) = refusedNumbers number place
+journalNumbers (JournalRead.Readable run count) = readableNumbers (run .0) count
 
 abbrev pub planNumbers : PlanRead → ReadNumbers
-planNumbers (PlanRead.Refused number place) = refused number place
-planNumbers (PlanRead.Readable capability count) = readable (capabilityNumber capability) count
+planNumbers (PlanRead.Refused number place) = refusedNumbers number place
+planNumbers (PlanRead.Readable capability count) = readableNumbers (capabilityNumber capability) count
 
 -- the empty body at 0 stands for none
 abbrev pub noBody : Body

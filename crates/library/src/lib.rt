@@ -6,7 +6,7 @@ ghost use mathlib.Core.Path.{_≡_};
 ghost use Rattle.files.specs.Reading.{journalRule, planRule};
 ghost use Rattle.files.specs.Contents.{nextRecord, nextStep};
 ghost use Rattle.files.specs.Encoding.{entryWith, recordEntry, stepEntry};
-ghost use Rattle.library.specs.Numbers.{capabilityNumber, journalNumbers, planNumbers, recordBody, stepBody, entryNumbers, nothing, recordNumbers, stepNumbers};
+ghost use Rattle.library.specs.Numbers.{capabilityNumber, refusedNumbers, readableNumbers, journalNumbers, planNumbers, recordBody, stepBody, entryNumbers, nothing, recordNumbers, stepNumbers};
 use clocks::ClockCapability;
 use clocks::TimerSpec;
 use files::Entry;
@@ -54,23 +54,35 @@ fn capability_number(capability: ClockCapability) -> u64
     }
 }
 
+fn refused(number: u64, place: u64) -> ReadNumbers
+    ensures { λ r. ⌜ r ≡ refusedNumbers number place ⌝ }
+{
+    ReadNumbers {
+        number,
+        place,
+        head: 0,
+        count: 0,
+    }
+}
+
+fn readable(head: u64, count: u16) -> ReadNumbers
+    ensures { λ r. ⌜ r ≡ readableNumbers head count ⌝ }
+{
+    ReadNumbers {
+        number: 0,
+        place: 0,
+        head,
+        count: count as u64,
+    }
+}
+
 #[no_mangle]
 pub extern "C" fn hiskurdo_read_journal(file: &[u8]) -> ReadNumbers
     ensures { λ r. ⌜ r ≡ journalNumbers (journalRule (now (file .entry))) ⌝ }
 {
     match reading::read_journal(file) {
-        JournalRead::Refused { number, place } => ReadNumbers {
-            number,
-            place,
-            head: 0,
-            count: 0,
-        },
-        JournalRead::Readable { run, count } => ReadNumbers {
-            number: 0,
-            place: 0,
-            head: run.0,
-            count: count as u64,
-        },
+        JournalRead::Refused { number, place } => refused(number, place),
+        JournalRead::Readable { run, count } => readable(run.0, count),
     }
 }
 
@@ -79,18 +91,8 @@ pub extern "C" fn hiskurdo_read_plan(file: &[u8]) -> ReadNumbers
     ensures { λ r. ⌜ r ≡ planNumbers (planRule (now (file .entry))) ⌝ }
 {
     match reading::read_plan(file) {
-        PlanRead::Refused { number, place } => ReadNumbers {
-            number,
-            place,
-            head: 0,
-            count: 0,
-        },
-        PlanRead::Readable { capability, count } => ReadNumbers {
-            number: 0,
-            place: 0,
-            head: capability_number(capability),
-            count: count as u64,
-        },
+        PlanRead::Refused { number, place } => refused(number, place),
+        PlanRead::Readable { capability, count } => readable(capability_number(capability), count),
     }
 }
 

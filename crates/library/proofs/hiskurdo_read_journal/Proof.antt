@@ -1,7 +1,7 @@
 -- `library::hiskurdo_read_journal` meets its contract: by what reading says.
 -- Assumes nothing.
 use borrow.Author.Needs.{needs}
-use mathlib.Core.Path.{refl, sym, _∙_}
+use mathlib.Core.Path.{sym, _∙_}
 use Rattle.errors.proofs.Arms.{by-arm}
 use Rattle.library.specs.Numbers.{journalNumbers}
 use Rattle.library.proofs.hiskurdo_read_journal.Statement.{statement}
@@ -10,6 +10,6 @@ use Rattle.library.proofs.hiskurdo_read_journal.Tie as tie
 pub hiskurdo-read-journal-spec : {M : Type 1} → statement M
 hiskurdo-read-journal-spec =
     tie.close
-    (tie.spec (λ c κs. search needs) (λ c. search needs) (λ c. search needs) (λ c. search needs)
-    (λ c. by-arm journalNumbers (sym (c .before .before .before .read-journal .ensures) ∙ c .before .number .given .1) refl)
-    (λ c. by-arm journalNumbers (sym (c .before .before .before .read-journal .ensures) ∙ c .before .run .given .1) refl))
+    (tie.spec (λ c κs. search needs) (λ c. search needs) (λ c κs. search needs) (λ c. search needs) (λ c κs. search needs)
+    (λ c. by-arm journalNumbers (sym (c .before .before .before .before .read-journal .ensures) ∙ c .before .before .number .given .1) (c .refused .ensures))
+    (λ c. by-arm journalNumbers (sym (c .before .before .before .before .read-journal .ensures) ∙ c .before .before .run .given .1) (c .readable .ensures)))

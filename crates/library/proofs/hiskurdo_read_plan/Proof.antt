@@ -1,7 +1,7 @@
 -- `library::hiskurdo_read_plan` meets its contract: by what reading says.
 -- Assumes nothing.
 use borrow.Author.Needs.{needs}
-use mathlib.Core.Path.{refl, sym, _∙_}
+use mathlib.Core.Path.{sym, _∙_}
 use Rattle.errors.proofs.Arms.{by-arm}
 use Rattle.library.specs.Numbers.{planNumbers}
 use Rattle.library.proofs.hiskurdo_read_plan.Statement.{statement}
@@ -10,6 +10,7 @@ use Rattle.library.proofs.hiskurdo_read_plan.Tie as tie
 pub hiskurdo-read-plan-spec : {M : Type 1} → statement M
 hiskurdo-read-plan-spec =
     tie.close
-    (tie.spec (λ c κs. search needs) (λ c. search needs) (λ c. search needs) (λ c κs. search needs) (λ c. search needs)
-    (λ c. by-arm planNumbers (sym (c .before .before .before .read-plan .ensures) ∙ c .before .number .given .1) refl)
-    (λ c. by-arm planNumbers (sym (c .before .before .before .before .read-plan .ensures) ∙ c .before .before .capability .given .1) (rw (c .capability-number .ensures))))
+    (tie.spec (λ c κs. search needs) (λ c. search needs) (λ c κs. search needs) (λ c. search needs) (λ c κs. search needs)
+    (λ c κs. search needs)
+    (λ c. by-arm planNumbers (sym (c .before .before .before .before .read-plan .ensures) ∙ c .before .before .number .given .1) (c .refused .ensures))
+    (λ c. by-arm planNumbers (sym (c .before .before .before .before .before .read-plan .ensures) ∙ c .before .before .before .capability .given .1) (rw (c .readable .ensures, c .before .capability-number .ensures))))
