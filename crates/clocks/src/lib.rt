@@ -30,8 +30,8 @@ impl TimerSpec {
         ensures { λ r. ⌜ r ≡ specClock self ⌝ }
     {
         match self {
-            TimerSpec::AfterBoot { ticks: _ } => ClockKind(1),
-            TimerSpec::AtPersistentTime { instant: _ } => ClockKind(2),
+            TimerSpec::AfterBoot { ticks: _ } => ClockKind::AFTER_BOOT,
+            TimerSpec::AtPersistentTime { instant: _ } => ClockKind::AT_PERSISTENT_TIME,
         }
     }
 
@@ -60,10 +60,12 @@ impl TimerSpec {
         ensures { λ r. ⌜ r ≡ recordedSpec «clock_kind» deadline ⌝ }
     {
         let kind = clock_kind.0;
-        if kind == 1 {
+        let boot = ClockKind::AFTER_BOOT;
+        if kind == boot.0 {
             return TimerSpecOption::Some(TimerSpec::AfterBoot { ticks: deadline });
         }
-        if kind == 2 {
+        let persistent = ClockKind::AT_PERSISTENT_TIME;
+        if kind == persistent.0 {
             return TimerSpecOption::Some(TimerSpec::AtPersistentTime { instant: deadline });
         }
         TimerSpecOption::None

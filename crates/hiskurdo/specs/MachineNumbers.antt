@@ -13,7 +13,7 @@ use Rattle.machine.specs.declared.Next.the-variants as Next
 use Rattle.machine.specs.declared.Phase.{Phase}
 use Rattle.machine.specs.declared.Phase.the-variants as Phase
 use Rattle.machine.specs.declared.ReplayMachine.{ReplayMachine}
-use Rattle.machine.specs.Told.{divergenceNumber}
+use Rattle.machine.specs.Divergences.{divergenceNumber}
 use Rattle.hiskurdo.specs.declared.SpecNumbers.{SpecNumbers}
 use Rattle.hiskurdo.specs.declared.RecordNumbers.{RecordNumbers}
 use Rattle.hiskurdo.specs.declared.CursorNumbers.{CursorNumbers}

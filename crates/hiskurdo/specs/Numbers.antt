@@ -20,7 +20,7 @@ use Rattle.cursor.specs.declared.State.{State}
 use Rattle.cursor.specs.declared.State.the-variants as State
 use Rattle.cursor.specs.declared.ReplayCursor.{ReplayCursor}
 use Rattle.cursor.specs.declared.Advanced.{Advanced}
-use Rattle.cursor.specs.Told.{stepResultTold}
+use Rattle.answers.specs.CursorTold.{stepResultTold}
 use Rattle.hiskurdo.specs.declared.IdsNumbers.{IdsNumbers}
 use Rattle.hiskurdo.specs.declared.AllocatedNumbers.{AllocatedNumbers}
 use Rattle.hiskurdo.specs.declared.SpecNumbers.{SpecNumbers}
@@ -62,12 +62,15 @@ errorOf n =
     (cond (eqb n 25) KernelError.NoPersistentClock
     (cond (eqb n 26) KernelError.ClockWentBackwards KernelError.IdExhausted))))
 
+abbrev pub scheduleOf : RecordNumbers → RecordRef
+scheduleOf n = RecordRef.EffectScheduled (record { 0 = n .s }) (record { 0 = n .a }) (n .d % 65536) (n .m % 4294967296)
+
 -- a record by the fields of a journal entry, its body m bytes from start; a kind above 8 is a marker.
 -- A 16-bit or 32-bit field is taken from the low bits.
 abbrev pub recordBy : ℕ → RecordNumbers → RecordRef
 recordBy kind n =
     cond (eqb kind 1) (RecordRef.RunStarted (n .a) (n .d % 65536) (record { start = n .start; len = n .m }))
-    (cond (eqb kind 2) (RecordRef.EffectScheduled (record { 0 = n .s }) (record { 0 = n .a }) (n .d % 65536) (n .m % 4294967296))
+    (cond (eqb kind 2) (scheduleOf n)
     (cond (eqb kind 3) (RecordRef.EffectCompleted (record { 0 = n .s }) (record { start = n .start; len = n .m }))
     (cond (eqb kind 4) (RecordRef.EffectFailed (record { 0 = n .s }) (record { start = n .start; len = n .m }))
     (cond (eqb kind 5) (RecordRef.TimerScheduled (record { 0 = n .s }) (record { 0 = n .clock }) (n .d) (n .m))
@@ -109,9 +112,9 @@ stateOf n = stateAt (n .position) n
 abbrev pub cursorOf : CursorNumbers → ReplayCursor
 cursorOf n = record { ids = idsOf (n .ids); state = stateOf n }
 
--- a cursor that holds nothing but its position
-abbrev pub bare : IdsNumbers → ℕ → CursorNumbers
-bare ids position =
+-- a cursor that holds nothing open; «error» is 0 unless it has halted
+abbrev pub bare : IdsNumbers → ℕ → ℕ → CursorNumbers
+bare ids position error =
     record {
       ids = ids;
       deadline = 0;
@@ -122,12 +125,13 @@ bare ids position =
       «input_len» = 0;
       position = position;
       «clock_kind» = 0;
-      «error» = 0;
+      «error» = error;
     }
 
+-- a cursor with a boundary open: what its schedule recorded, 0 for what the other kind of boundary records
 abbrev pub cursorNumbersFor : IdsNumbers → State → CursorNumbers
-cursorNumbersFor ids State.BeforeRun = bare ids 0
-cursorNumbersFor ids State.Replaying = bare ids 1
+cursorNumbersFor ids State.BeforeRun = bare ids 0 0
+cursorNumbersFor ids State.Replaying = bare ids 1 0
 cursorNumbersFor ids (State.AwaitingOutcome scheduled) =
     record {
       ids = ids;
@@ -154,21 +158,9 @@ cursorNumbersFor ids (State.AwaitingTimer armed) =
       «clock_kind» = armed .«clock_kind» .0;
       «error» = 0;
     }
-cursorNumbersFor ids State.RunCompleted = bare ids 4
-cursorNumbersFor ids State.RunFailed = bare ids 5
-cursorNumbersFor ids (State.Halted x) =
-    record {
-      ids = ids;
-      deadline = 0;
-      «armed_at» = 0;
-      seq = 0;
-      «input_crc» = 0;
-      kind = 0;
-      «input_len» = 0;
-      position = 6;
-      «clock_kind» = 0;
-      «error» = errorNumber x;
-    }
+cursorNumbersFor ids State.RunCompleted = bare ids 4 0
+cursorNumbersFor ids State.RunFailed = bare ids 5 0
+cursorNumbersFor ids (State.Halted x) = bare ids 6 (errorNumber x)
 
 abbrev pub cursorNumbers : ReplayCursor → CursorNumbers
 cursorNumbers c = cursorNumbersFor (idsNumbers (c .ids)) (c .state)

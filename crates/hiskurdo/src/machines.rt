@@ -1,13 +1,12 @@
 // The machine for C and Rust.
 ghost use mathlib.Core.Path.{_≡_};
 ghost use Rattle.cursor.specs.Readers.{positionOf, pendingOf, pendingTimerOf};
-ghost use Rattle.cursor.specs.Told.{positionTold, pendingEffectOptionTold, pendingTimerOptionTold, stepResultTold};
+ghost use Rattle.answers.specs.CursorTold.{positionTold, pendingEffectOptionTold, pendingTimerOptionTold, stepResultTold};
 ghost use Rattle.machine.specs.Phases as Phases;
-ghost use Rattle.machine.specs.Divergences.{effectDivergence};
+ghost use Rattle.machine.specs.Divergences.{divergenceOptionNumber, effectDivergence};
 ghost use Rattle.machine.specs.Effects.{intentRule, outcomeRule};
 ghost use Rattle.machine.specs.Timers.{timerIntentRule, timerOutcomeRule};
-ghost use Rattle.machine.specs.Told.{
-  divergenceOptionNumber,
+ghost use Rattle.answers.specs.MachineTold.{
   intentResultTold,
   resolveResultTold,
   timerIntentResultTold,
@@ -29,6 +28,7 @@ ghost use Rattle.hiskurdo.specs.MachineNumbers.{
 use crate::CursorNumbers;
 use crate::RecordNumbers;
 use crate::SpecNumbers;
+use answers::machines as told;
 use cursor::PendingEffect;
 use errors::Told;
 use ids::ActivityKind;
@@ -112,14 +112,14 @@ pub extern "C" fn hiskurdo_machine_run(machine: MachineNumbers) -> u64
 pub extern "C" fn hiskurdo_machine_position(machine: MachineNumbers) -> Told
     ensures { λ r. ⌜ r ≡ positionTold (positionOf (machineOf machine .cursor .state)) ⌝ }
 {
-    machine_of(machine).position().told()
+    answers::position_told(machine_of(machine).position())
 }
 
 #[no_mangle]
 pub extern "C" fn hiskurdo_machine_pending(machine: MachineNumbers) -> Told
     ensures { λ r. ⌜ r ≡ pendingEffectOptionTold (pendingOf (machineOf machine .cursor .ids .run) (machineOf machine .cursor .state)) ⌝ }
 {
-    machine_of(machine).pending().told()
+    answers::pending_effect_told(machine_of(machine).pending())
 }
 
 #[no_mangle]
@@ -127,7 +127,7 @@ pub extern "C" fn hiskurdo_machine_pending_timer(machine: MachineNumbers) -> Tol
     ensures { λ r. ⌜ r ≡
         pendingTimerOptionTold (pendingTimerOf (machineOf machine .cursor .ids .run) (machineOf machine .cursor .state)) ⌝ }
 {
-    machine_of(machine).pending_timer().told()
+    answers::pending_timer_told(machine_of(machine).pending_timer())
 }
 
 #[no_mangle]
@@ -149,7 +149,7 @@ pub extern "C" fn hiskurdo_machine_advance(
     let done = machine_of(machine).advance(crate::record_of(record));
     let next = done.machine;
     let answer = done.answer;
-    answered(next, answer.told())
+    answered(next, answers::step_result_told(answer))
 }
 
 #[no_mangle]
@@ -166,7 +166,7 @@ pub extern "C" fn hiskurdo_machine_intent(
     let done = machine_of(machine).intent(request_of(request), next_of(ended, record));
     let next = done.machine;
     let answer = done.answer;
-    answered(next, answer.told())
+    answered(next, told::intent_result_told(answer))
 }
 
 #[no_mangle]
@@ -182,7 +182,7 @@ pub extern "C" fn hiskurdo_machine_outcome(
     let done = machine_of(machine).outcome(next_of(ended, record));
     let next = done.machine;
     let answer = done.answer;
-    answered(next, answer.told())
+    answered(next, told::resolve_result_told(answer))
 }
 
 #[no_mangle]
@@ -202,7 +202,7 @@ pub extern "C" fn hiskurdo_machine_timer_intent(
     let done = machine_of(machine).timer_intent(request, next_of(ended, record));
     let next = done.machine;
     let answer = done.answer;
-    answered(next, answer.told())
+    answered(next, told::timer_intent_result_told(answer))
 }
 
 #[no_mangle]
@@ -218,7 +218,7 @@ pub extern "C" fn hiskurdo_machine_timer_outcome(
     let done = machine_of(machine).timer_outcome(next_of(ended, record));
     let next = done.machine;
     let answer = done.answer;
-    answered(next, answer.told())
+    answered(next, told::timer_resolve_result_told(answer))
 }
 
 // Numbers to values.

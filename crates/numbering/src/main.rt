@@ -1,5 +1,6 @@
 // The end of numbering, walked from a fresh machine: `RunStarted`, 2^32 markers, then all that is said of "no number left".
 // The cursor that is tried is the walked machine's own.
+use answers::machines as told;
 use clocks::ClockCapability;
 use clocks::TimerSpec;
 use cursor::ReplayCursor;
@@ -83,10 +84,10 @@ fn schedule() -> RecordRef {
     }
 }
 
-fn timer(clock: u8) -> RecordRef {
+fn timer(clock_kind: ClockKind) -> RecordRef {
     RecordRef::TimerScheduled {
         seq: EffectSeq(0),
-        clock_kind: ClockKind(clock),
+        clock_kind,
         deadline: 5,
         armed_at: 0,
     }
@@ -112,7 +113,7 @@ fn cursor_at_the_end(cursor: ReplayCursor) {
     );
     advance(b"cursor, marker with number 0: ", cursor, marker(0));
     advance(b"cursor, schedule: ", cursor, schedule());
-    advance(b"cursor, timer: ", cursor, timer(1));
+    advance(b"cursor, timer: ", cursor, timer(ClockKind::AFTER_BOOT));
     advance(b"cursor, run completed: ", cursor, completed());
     advance(b"cursor, run failed: ", cursor, failed());
 }
@@ -122,13 +123,13 @@ fn advance(label: &[u8], cursor: ReplayCursor, record: RecordRef) {
     let advanced = cursor.advance(record);
     let answer = advanced.answer;
     let next = advanced.cursor;
-    say(b"answer ", answer.told().number);
+    say(b"answer ", answers::step_result_told(answer).number);
     io::write_all(1, b", ");
     readers(next);
 }
 
 fn readers(cursor: ReplayCursor) {
-    let position = cursor.position().told();
+    let position = answers::position_told(cursor.position());
     say(b"position ", position.number);
     say(b" ", position.a);
     say(b", next_seq ", cursor.next_seq().told().number);
@@ -141,7 +142,11 @@ fn readers(cursor: ReplayCursor) {
 fn machine_at_the_end(machine: ReplayMachine) {
     intent(b"intent, end of history: ", machine, Next::EndOfHistory);
     intent(b"intent, own schedule: ", machine, Next::Record(schedule()));
-    intent(b"intent, timer: ", machine, Next::Record(timer(1)));
+    intent(
+        b"intent, timer: ",
+        machine,
+        Next::Record(timer(ClockKind::AFTER_BOOT)),
+    );
     intent(b"intent, marker: ", machine, Next::Record(marker(0)));
     intent(
         b"intent, run completed: ",
@@ -162,7 +167,7 @@ fn intent(label: &[u8], machine: ReplayMachine, next: Next) {
     let answer = done.answer;
     let after = done.machine;
     io::write_all(1, label);
-    answered(answer.told().number, after);
+    answered(told::intent_result_told(answer).number, after);
 }
 
 // The machine, asked for a timer.
@@ -182,8 +187,12 @@ fn timers_at_the_end(machine: ReplayMachine) {
         both,
         Next::EndOfHistory,
     );
-    timer_on(b"own timer: ", machine, timer(2));
-    timer_on(b"own timer, unknown clock: ", machine, timer(0));
+    timer_on(
+        b"own timer: ",
+        machine,
+        timer(ClockKind::AT_PERSISTENT_TIME),
+    );
+    timer_on(b"own timer, unknown clock: ", machine, timer(ClockKind(0)));
     timer_on(b"schedule: ", machine, schedule());
     timer_on(b"marker: ", machine, marker(0));
     timer_on(b"run completed: ", machine, completed());
@@ -209,11 +218,11 @@ fn timer_intent(label: &[u8], machine: ReplayMachine, capability: ClockCapabilit
     let after = done.machine;
     io::write_all(1, b"timer_intent, ");
     io::write_all(1, label);
-    answered(answer.told().number, after);
+    answered(told::timer_intent_result_told(answer).number, after);
 }
 
 fn answered(number: u64, machine: ReplayMachine) {
-    let position = machine.position().told();
+    let position = answers::position_told(machine.position());
     say(b"answer ", number);
     say(b", position ", position.number);
     say(b" ", position.a);

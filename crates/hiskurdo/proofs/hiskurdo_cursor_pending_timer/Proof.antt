@@ -9,4 +9,4 @@ hiskurdo-cursor-pending-timer-spec =
     tie.close
     (tie.spec
     (λ c κs. search needs) (λ c κs. search needs) (λ c κs. search needs)
-    (λ c. rw (c .told .ensures, c .before .pending-timer .ensures, c .before .before .cursor-of .ensures)))
+    (λ c. rw (c .pending-timer-told .ensures, c .before .pending-timer .ensures, c .before .before .cursor-of .ensures)))

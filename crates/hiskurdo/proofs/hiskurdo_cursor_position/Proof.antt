@@ -9,4 +9,4 @@ hiskurdo-cursor-position-spec =
     tie.close
     (tie.spec
     (λ c κs. search needs) (λ c κs. search needs) (λ c κs. search needs)
-    (λ c. rw (c .told .ensures, c .before .position .ensures, c .before .before .cursor-of .ensures)))
+    (λ c. rw (c .position-told .ensures, c .before .position .ensures, c .before .before .cursor-of .ensures)))

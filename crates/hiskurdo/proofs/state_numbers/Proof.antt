@@ -10,12 +10,13 @@ pub state-numbers-spec : {M : Type 1} → statement M
 state-numbers-spec =
     tie.close
     (tie.spec
-    (λ c κs. search needs) (λ c. search needs) (λ c. search needs) (λ c. search needs) (λ c. search needs)
-    (λ c. search needs) (λ c. search needs) (λ c. search needs) (λ c κs. search needs)
-    (λ c. by-arm (cursorNumbersFor (c .before .before .before .args .ids)) (c .enum-told .given .1) (rw (c .before .before .bare-numbers .ensures)))
-    (λ c. by-arm (cursorNumbersFor (c .before .before .before .args .ids)) (c .enum-told2 .given .1) (rw (c .before .before .bare-numbers .ensures)))
-    (λ c. by-arm (cursorNumbersFor (c .before .before .before .before .args .ids)) (c .before .state .given .1) (rw (c .before .before .before .bare-numbers .ensures)))
-    (λ c. by-arm (cursorNumbersFor (c .before .before .before .before .args .ids)) (c .before .state2 .given .1) (rw (c .before .before .before .bare-numbers .ensures)))
-    (λ c. by-arm (cursorNumbersFor (c .before .before .before .args .ids)) (c .enum-told3 .given .1) (rw (c .before .before .bare-numbers .ensures)))
-    (λ c. by-arm (cursorNumbersFor (c .before .before .before .args .ids)) (c .enum-told4 .given .1) (rw (c .before .before .bare-numbers .ensures)))
-    (λ c. by-arm (cursorNumbersFor (c .before .before .before .before .before .args .ids)) (c .before .before .state3 .given .1) (rw (c .before .before .before .before .bare-numbers .ensures, c .number .ensures))))
+    (λ c. search needs) (λ c κs. search needs) (λ c. search needs) (λ c κs. search needs) (λ c. search needs)
+    (λ c κs. search needs) (λ c. search needs) (λ c κs. search needs) (λ c. search needs) (λ c κs. search needs)
+    (λ c. search needs) (λ c κs. search needs) (λ c. search needs) (λ c κs. search needs) (λ c κs. search needs)
+    (λ c. by-arm (cursorNumbersFor (c .before .before .before .args .ids)) (c .before .enum-told .given .1) (c .bare-numbers .ensures))
+    (λ c. by-arm (cursorNumbersFor (c .before .before .before .args .ids)) (c .before .enum-told2 .given .1) (c .bare-numbers2 .ensures))
+    (λ c. by-arm (cursorNumbersFor (c .before .before .before .before .args .ids)) (c .before .before .state .given .1) (rw (c .bare-numbers3 .ensures)))
+    (λ c. by-arm (cursorNumbersFor (c .before .before .before .before .args .ids)) (c .before .before .state2 .given .1) (rw (c .bare-numbers4 .ensures)))
+    (λ c. by-arm (cursorNumbersFor (c .before .before .before .args .ids)) (c .before .enum-told3 .given .1) (c .bare-numbers5 .ensures))
+    (λ c. by-arm (cursorNumbersFor (c .before .before .before .args .ids)) (c .before .enum-told4 .given .1) (c .bare-numbers6 .ensures))
+    (λ c. by-arm (cursorNumbersFor (c .before .before .before .before .before .args .ids)) (c .before .before .before .state3 .given .1) (rw (c .bare-numbers7 .ensures, c .before .number .ensures))))

@@ -10,4 +10,4 @@ hiskurdo-machine-advance-spec =
     (tie.spec
     (λ c κs. search needs) (λ c κs. search needs) (λ c κs. search needs) (λ c κs. search needs)
     (λ c κs. search needs)
-    (λ c. rw (c .answered .ensures, c .before .told .ensures, c .before .before .before .advance .ensures, c .before .before .before .before .record-of .ensures, c .before .before .before .before .before .machine-of .ensures)))
+    (λ c. rw (c .answered .ensures, c .before .step-result-told .ensures, c .before .before .before .advance .ensures, c .before .before .before .before .record-of .ensures, c .before .before .before .before .before .machine-of .ensures)))

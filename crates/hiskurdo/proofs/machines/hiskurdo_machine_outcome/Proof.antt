@@ -10,4 +10,4 @@ hiskurdo-machine-outcome-spec =
     (tie.spec
     (λ c κs. search needs) (λ c κs. search needs) (λ c κs. search needs) (λ c κs. search needs)
     (λ c κs. search needs)
-    (λ c. rw (c .answered .ensures, c .before .told .ensures, c .before .before .before .outcome .ensures, c .before .before .before .before .next-of .ensures, c .before .before .before .before .before .machine-of .ensures)))
+    (λ c. rw (c .answered .ensures, c .before .resolve-result-told .ensures, c .before .before .before .outcome .ensures, c .before .before .before .before .next-of .ensures, c .before .before .before .before .before .machine-of .ensures)))

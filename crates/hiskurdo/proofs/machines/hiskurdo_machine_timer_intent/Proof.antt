@@ -10,4 +10,4 @@ hiskurdo-machine-timer-intent-spec =
     (tie.spec
     (λ c κs. search needs) (λ c κs. search needs) (λ c κs. search needs) (λ c κs. search needs)
     (λ c κs. search needs) (λ c κs. search needs)
-    (λ c. rw (c .answered .ensures, c .before .told .ensures, c .before .before .before .timer-intent .ensures, c .before .before .before .before .next-of .ensures, c .before .before .before .before .before .machine-of .ensures, c .before .before .before .before .before .before .timer-request-of .ensures)))
+    (λ c. rw (c .answered .ensures, c .before .timer-intent-result-told .ensures, c .before .before .before .timer-intent .ensures, c .before .before .before .before .next-of .ensures, c .before .before .before .before .before .machine-of .ensures, c .before .before .before .before .before .before .timer-request-of .ensures)))

@@ -1,0 +1,2 @@
+pub mod CursorTold
+pub mod MachineTold
