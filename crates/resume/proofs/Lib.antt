@@ -1,3 +1,4 @@
 pub mod Places
 pub mod Rules
 pub mod Loops
+pub mod Keeps
