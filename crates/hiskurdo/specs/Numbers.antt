@@ -65,7 +65,7 @@ errorOf n =
 abbrev pub scheduleOf : RecordNumbers → RecordRef
 scheduleOf n = RecordRef.EffectScheduled (record { 0 = n .s }) (record { 0 = n .a }) (n .d % 65536) (n .m % 4294967296)
 
--- a record by the fields of a journal entry, its body m bytes from start; a kind above 8 is a marker.
+-- a record by the fields of a journal entry, its body m bytes from start; a kind that is none of 1 to 8 is a marker.
 -- A 16-bit or 32-bit field is taken from the low bits.
 abbrev pub recordBy : ℕ → RecordNumbers → RecordRef
 recordBy kind n =
@@ -112,7 +112,7 @@ stateOf n = stateAt (n .position) n
 abbrev pub cursorOf : CursorNumbers → ReplayCursor
 cursorOf n = record { ids = idsOf (n .ids); state = stateOf n }
 
--- a cursor that holds nothing open; «error» is 0 unless it has halted
+-- a cursor that holds nothing open; its error is 0 unless it has halted
 abbrev pub bare : IdsNumbers → ℕ → ℕ → CursorNumbers
 bare ids position error =
     record {
