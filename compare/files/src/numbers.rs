@@ -1,6 +1,6 @@
 //! Answers as plain numbers, the form in which the proved code gives them.
 
-use crate::reader::{self, Entry, Format, Refused, Step};
+use crate::reader::{self, Entry, Format, Refused};
 use crate::resume::{Ending, Handover, Verdict};
 use crate::writing::{record_entry, step_entry};
 

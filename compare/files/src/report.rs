@@ -24,11 +24,7 @@ pub fn same_verdict(verdict: &Verdict, journal: impl FnOnce() -> Vec<u8>, plan: 
 }
 
 /// Compares the verdict and the handover of these boundaries, and gives the verdict.
-pub fn same_pair(
-    journal: &[u8],
-    plan: &[u8],
-    boundaries: impl Iterator<Item = u64>,
-) -> Verdict {
+pub fn same_pair(journal: &[u8], plan: &[u8], boundaries: impl Iterator<Item = u64>) -> Verdict {
     let verdict = crate::resume::verdict(journal, plan);
     same_verdict(&verdict, || journal.to_vec(), plan);
     for boundary in boundaries {

@@ -7,9 +7,9 @@ use waymaker_core::{
 };
 
 use crate::Settings;
-use crate::histories::{Form, forms};
+use crate::judge::Judge;
 use crate::reader::Step;
-use crate::report::{differ_on_pair, same_verdict};
+use crate::report::{differ_on_pair, same_pair, same_verdict};
 use crate::resume::{Ending, Verdict, procedure};
 use crate::writing;
 
@@ -17,7 +17,13 @@ const RUN: RunId = RunId(7);
 
 pub fn run(settings: &Settings) -> String {
     let whole = every_list(settings.list_depth);
-    let steps = [effect(1, 0, 5), boot(5), persistent(5), effect(2, 1, 6), boot(6)];
+    let steps = [
+        effect(1, 0, 5),
+        boot(5),
+        persistent(5),
+        effect(2, 1, 6),
+        boot(6),
+    ];
     let alphabet = letters(&[0, 1, 2, 3, u32::MAX], true);
     let mut followed = 0;
     for_each_plan(&steps, |scope| {
@@ -116,14 +122,14 @@ fn started(workflow_kind: u16, input: &'static [u8]) -> RecordRef<'static> {
 
 fn effects(letters: &mut Vec<RecordRef<'static>>, seq: EffectSeq) {
     let wanted = [(1, 0, 5), (2, 0, 5), (1, 1, 5), (1, 0, 6), (2, 1, 6)];
-    letters.extend(wanted.map(|(kind, input_len, input_crc)| {
-        RecordRef::EffectScheduled {
+    letters.extend(
+        wanted.map(|(kind, input_len, input_crc)| RecordRef::EffectScheduled {
             seq,
             kind: ActivityKind(kind),
             input_len,
             input_crc,
-        }
-    }));
+        }),
+    );
 }
 
 fn timers(letters: &mut Vec<RecordRef<'static>>, seq: EffectSeq, free: bool) {
@@ -145,9 +151,7 @@ fn timers(letters: &mut Vec<RecordRef<'static>>, seq: EffectSeq, free: bool) {
 
 /// One plan, and the list of records at hand.
 struct Scope {
-    capability: ClockCapability,
-    steps: Vec<Step<'static>>,
-    forms: Vec<Form<'static>>,
+    judge: Judge<'static>,
     plan: Vec<u8>,
     records: Vec<RecordRef<'static>>,
     lists: u64,
@@ -156,10 +160,8 @@ struct Scope {
 impl Scope {
     fn new(capability: ClockCapability, steps: Vec<Step<'static>>) -> Scope {
         Scope {
-            capability,
-            forms: forms(capability, &steps),
             plan: writing::plan(capability, &steps).bytes(),
-            steps,
+            judge: Judge::new(capability, steps),
             records: Vec::new(),
             lists: 0,
         }
@@ -205,15 +207,31 @@ impl Scope {
         self.lists += 1;
         let verdict = procedure(
             RUN,
-            self.capability,
-            self.steps.iter().copied(),
+            self.judge.capability,
+            self.judge.steps.iter().copied(),
             self.records.iter().copied(),
         );
-        match self.contradiction(&verdict) {
-            Some(contradiction) => self.wrong(contradiction),
-            None => same_verdict(&verdict, || self.journal(), &self.plan),
+        if let Some(contradiction) = self.judge.contradiction(&self.records, &verdict) {
+            self.wrong(contradiction);
+        }
+        match verdict {
+            Verdict::Ok { ending, stop, .. } => self.check_handovers(ending, stop),
+            Verdict::No { .. } => same_verdict(&verdict, || self.journal(), &self.plan),
         }
         verdict
+    }
+
+    fn check_handovers(&self, ending: Ending, stop: u64) {
+        let journal = self.journal();
+        let boundaries = || 0..=self.judge.steps.len() as u64 + 1;
+        same_pair(&journal, &self.plan, boundaries());
+        let pair = (&journal[..], &self.plan[..]);
+        let wrong = self
+            .judge
+            .wrong_handover(pair, &self.records, (ending, stop), boundaries());
+        if let Some(boundary) = wrong {
+            self.wrong(&format!("handover of {boundary}"));
+        }
     }
 
     fn journal(&self) -> Vec<u8> {
@@ -222,94 +240,5 @@ impl Scope {
 
     fn wrong(&self, what: &str) -> ! {
         differ_on_pair(what, &self.journal(), &self.plan);
-    }
-
-    /// What document 01's definition has against the verdict. Each answer's condition shuts
-    /// out the others', so that a verdict whose own condition holds is the only right one.
-    fn contradiction(&self, verdict: &Verdict) -> Option<&'static str> {
-        match *verdict {
-            Verdict::Ok {
-                ending,
-                stop,
-                records,
-                calls,
-            } => self.not_accepted(ending, stop, records, calls),
-            Verdict::No {
-                number,
-                place,
-                calls,
-                ..
-            } => match place < self.records.len() as u64 {
-                true => self.not_refused_at(number, place as usize, calls),
-                false => self.not_refused_at_the_end(number, place, calls),
-            },
-        }
-    }
-
-    /// Accepted: the whole list is a history, with this stop and ending and no other.
-    fn not_accepted(
-        &self,
-        ending: Ending,
-        stop: u64,
-        records: u64,
-        calls: u64,
-    ) -> Option<&'static str> {
-        let mut fitting = self.forms.iter().filter(|form| form.is(&self.records));
-        let Some(form) = fitting.next() else {
-            return Some("accepted, and no history");
-        };
-        if (form.ending, form.stop) != (ending, stop) {
-            return Some("accepted with another ending or stop");
-        }
-        if fitting.next().is_some() {
-            return Some("two endings or stops fit");
-        }
-        let more = u64::from(matches!(ending, Ending::Due | Ending::Open));
-        if (records, calls) != (self.records.len() as u64, records + more) {
-            return Some("accepted with another count");
-        }
-        None
-    }
-
-    /// Refused at record p: the first p records begin a history, the first p + 1 none.
-    fn not_refused_at(&self, number: u64, p: usize, calls: u64) -> Option<&'static str> {
-        if !self.begins(&self.records[..p]) {
-            return Some("refused too late");
-        }
-        if self.begins(&self.records[..p + 1]) {
-            return Some("refused too early");
-        }
-        let called = u64::from(number != 31);
-        (calls != p as u64 + called).then_some("refused with another count of calls")
-    }
-
-    fn begins(&self, records: &[RecordRef<'_>]) -> bool {
-        self.forms.iter().any(|form| form.begun_by(records))
-    }
-
-    /// Refused after the last record: `RunStarted`, the boundaries before step k, and step k
-    /// a timer that is not admitted.
-    fn not_refused_at_the_end(
-        &self,
-        number: u64,
-        place: u64,
-        calls: u64,
-    ) -> Option<&'static str> {
-        let count = self.records.len() as u64;
-        if (number, place, calls) != (25, count, count + 1) {
-            return Some("refused after the last record with another number, place or count");
-        }
-        if self.forms.iter().any(|form| form.is(&self.records)) {
-            return Some("a history is refused after its last record");
-        }
-        // The steps before k have two records each, so k follows from the count.
-        let k = (self.records.len() - 1) / 2;
-        let whole = self.records.len() == 1 + 2 * k && self.begins(&self.records);
-        let barred = matches!(
-            self.steps.get(k),
-            Some(Step::Timer(TimerSpec::AtPersistentTime { .. }))
-        );
-        let boot_only = self.capability == ClockCapability::BootOnly;
-        (!(whole && barred && boot_only)).then_some("refused after the last record, and not barred")
     }
 }
