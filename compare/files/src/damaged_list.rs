@@ -1,5 +1,6 @@
 //! The fixed list of files that is stored with the answers of the plain reader.
 
+use std::collections::BTreeSet;
 use std::fmt::Write;
 
 use crate::files::FORMATS;
@@ -58,6 +59,8 @@ pub fn list() -> Vec<(Format, Vec<u8>)> {
         sums(&mut files, format);
         full(&mut files, format);
         damage(&mut files, format, &mut random);
+        let mut seen = BTreeSet::new();
+        files.retain(|file| seen.insert(file.clone()));
         list.extend(files.into_iter().map(|file| (format, file)));
     }
     list
