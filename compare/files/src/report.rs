@@ -6,7 +6,7 @@ use std::process;
 use crate::numbers;
 use crate::proved;
 use crate::reader::Format;
-use crate::resume::Verdict;
+use crate::resume::{Verdict, handover, verdict};
 use crate::text::items;
 
 /// Compares the proved verdict, where there is one, with this one.
@@ -25,10 +25,10 @@ pub fn same_verdict(verdict: &Verdict, journal: impl FnOnce() -> Vec<u8>, plan: 
 
 /// Compares the verdict and the handover of these boundaries, and gives the verdict.
 pub fn same_pair(journal: &[u8], plan: &[u8], boundaries: impl Iterator<Item = u64>) -> Verdict {
-    let verdict = crate::resume::verdict(journal, plan);
+    let verdict = verdict(journal, plan);
     same_verdict(&verdict, || journal.to_vec(), plan);
     for boundary in boundaries {
-        let rust = crate::resume::handover(journal, plan, boundary);
+        let rust = handover(journal, plan, boundary);
         let rust = numbers::handover(journal, plan, &rust);
         if let Some(proved) = proved::handover(journal, plan, boundary)
             && proved != rust
