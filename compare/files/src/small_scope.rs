@@ -215,16 +215,19 @@ impl Scope {
             self.wrong(contradiction);
         }
         match verdict {
-            Verdict::Ok { ending, stop, .. } => self.check_handovers(ending, stop),
+            Verdict::Ok { ending, stop, .. } => self.check_handovers(&verdict, ending, stop),
             Verdict::No { .. } => same_verdict(&verdict, || self.journal(), &self.plan),
         }
         verdict
     }
 
-    fn check_handovers(&self, ending: Ending, stop: u64) {
+    /// An accepted list as bytes: the same verdict, and what is handed over.
+    fn check_handovers(&self, verdict: &Verdict, ending: Ending, stop: u64) {
         let journal = self.journal();
         let boundaries = || 0..=self.judge.steps.len() as u64 + 1;
-        same_pair(&journal, &self.plan, boundaries());
+        if same_pair(&journal, &self.plan, boundaries()) != *verdict {
+            self.wrong("its bytes have another verdict");
+        }
         let pair = (&journal[..], &self.plan[..]);
         let wrong = self
             .judge
