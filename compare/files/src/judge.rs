@@ -1,0 +1,171 @@
+//! Holds a verdict and its handovers against document 01's definition of histories, which
+//! knows nothing of the machine.
+
+use waymaker_core::{ClockCapability, RecordRef, TimerSpec};
+
+use crate::histories::{Form, forms};
+use crate::reader::Step;
+use crate::resume::{Ending, Handover, Verdict, handover};
+
+/// A plan, and every form that its histories have.
+pub struct Judge<'a> {
+    pub capability: ClockCapability,
+    pub steps: Vec<Step<'a>>,
+    forms: Vec<Form<'a>>,
+}
+
+impl<'a> Judge<'a> {
+    pub fn new(capability: ClockCapability, steps: Vec<Step<'a>>) -> Judge<'a> {
+        Judge {
+            capability,
+            forms: forms(capability, &steps),
+            steps,
+        }
+    }
+
+    /// What the definition has against the verdict on these records. Each answer's condition
+    /// shuts out the others', so a verdict whose own condition holds is the only right one.
+    pub fn contradiction(
+        &self,
+        records: &[RecordRef<'_>],
+        verdict: &Verdict,
+    ) -> Option<&'static str> {
+        match *verdict {
+            Verdict::Ok {
+                ending,
+                stop,
+                records: count,
+                calls,
+            } => self
+                .not_accepted(records, ending, stop)
+                .or_else(|| wrong_counts(records, ending, count, calls)),
+            Verdict::No {
+                number,
+                place,
+                calls,
+                ..
+            } => match place < records.len() as u64 {
+                true => self.not_refused_at(records, number, place as usize, calls),
+                false => self.not_refused_at_the_end(records, number, place, calls),
+            },
+        }
+    }
+
+    /// Accepted: the whole list is a history, with this stop and ending and no other.
+    fn not_accepted(
+        &self,
+        records: &[RecordRef<'_>],
+        ending: Ending,
+        stop: u64,
+    ) -> Option<&'static str> {
+        let mut fitting = self.forms.iter().filter(|form| form.is(records));
+        let Some(form) = fitting.next() else {
+            return Some("accepted, and no history");
+        };
+        if (form.ending, form.stop) != (ending, stop) {
+            return Some("accepted with another ending or stop");
+        }
+        fitting.next().map(|_| "two endings or stops fit")
+    }
+
+    /// Refused at record p: the first p records begin a history, the first p + 1 none.
+    fn not_refused_at(
+        &self,
+        records: &[RecordRef<'_>],
+        number: u64,
+        p: usize,
+        calls: u64,
+    ) -> Option<&'static str> {
+        if !self.begins(&records[..p]) {
+            return Some("refused too late");
+        }
+        if self.begins(&records[..p + 1]) {
+            return Some("refused too early");
+        }
+        let called = u64::from(number != 31);
+        (calls != p as u64 + called).then_some("refused with another count of calls")
+    }
+
+    fn begins(&self, records: &[RecordRef<'_>]) -> bool {
+        self.forms.iter().any(|form| form.begun_by(records))
+    }
+
+    /// Refused after the last record: they are `RunStarted` and the boundaries before step k,
+    /// and step k is a timer that is not admitted.
+    fn not_refused_at_the_end(
+        &self,
+        records: &[RecordRef<'_>],
+        number: u64,
+        place: u64,
+        calls: u64,
+    ) -> Option<&'static str> {
+        let count = records.len() as u64;
+        if (number, place, calls) != (25, count, count + 1) {
+            return Some("refused after the last record with another number, place or count");
+        }
+        if self.forms.iter().any(|form| form.is(records)) {
+            return Some("a history is refused after its last record");
+        }
+        // Each step before k has two records, so k follows from the count.
+        let k = records.len().saturating_sub(1) / 2;
+        let whole = records.len() == 1 + 2 * k && self.begins(records);
+        let persistent = matches!(
+            self.steps.get(k),
+            Some(Step::Timer(TimerSpec::AtPersistentTime { .. }))
+        );
+        let barred = persistent && self.capability == ClockCapability::BootOnly;
+        (!whole || !barred).then_some("refused after the last record, and not barred")
+    }
+
+    /// The first of these boundaries for which an accepted pair hands over something else
+    /// than the definition names.
+    pub fn wrong_handover(
+        &self,
+        (journal, plan): (&[u8], &[u8]),
+        records: &[RecordRef<'_>],
+        (ending, stop): (Ending, u64),
+        mut boundaries: impl Iterator<Item = u64>,
+    ) -> Option<u64> {
+        boundaries.find(|boundary| {
+            let named = self.named(records, ending, stop, *boundary);
+            named != Some(handover(journal, plan, *boundary))
+        })
+    }
+
+    /// The bytes that document 01 names for a boundary: boundary i has the records 1 + 2i
+    /// and 2 + 2i.
+    fn named<'r>(
+        &'r self,
+        records: &[RecordRef<'r>],
+        ending: Ending,
+        stop: u64,
+        boundary: u64,
+    ) -> Option<Handover<'r>> {
+        let at = boundary.min(stop) as usize;
+        match self.steps.get(at) {
+            Some(Step::Effect { .. }) if boundary < stop => match records[2 + 2 * at] {
+                RecordRef::EffectCompleted { result, .. } => Some(Handover::Completed(result)),
+                RecordRef::EffectFailed { error, .. } => Some(Handover::Failed(error)),
+                _ => None,
+            },
+            Some(Step::Effect { input, .. })
+                if boundary == stop && matches!(ending, Ending::Due | Ending::Open) =>
+            {
+                Some(Handover::Input(input))
+            }
+            _ => Some(Handover::Refused(32)),
+        }
+    }
+}
+
+/// Accepted, the calls are the records, plus one when *due* or *open*.
+fn wrong_counts(
+    records: &[RecordRef<'_>],
+    ending: Ending,
+    count: u64,
+    calls: u64,
+) -> Option<&'static str> {
+    let more = u64::from(matches!(ending, Ending::Due | Ending::Open));
+    let right = records.len() as u64;
+    ((count, calls) != (right, right + more)).then_some("accepted with another count")
+}

@@ -1,0 +1,187 @@
+//! Answers as plain numbers, the form in which the proved code gives them.
+
+use crate::reader::{self, Entry, Format, Refused};
+use crate::resume::{Ending, Handover, Verdict};
+use crate::writing::{record_entry, step_entry};
+
+/// What reading a file says. `number` 0: it is readable, and `head` is the run number or the
+/// capability.
+#[repr(C)]
+#[derive(Clone, Copy, PartialEq, Eq, Debug, Default)]
+pub struct ReadNumbers {
+    pub number: u64,
+    pub place: u64,
+    pub head: u64,
+    pub count: u64,
+}
+
+/// A record or a step, its body's start and length (0 where it has none), and where the next
+/// entry and the next body stand. `kind` 0: nothing stands there.
+#[repr(C)]
+#[derive(Clone, Copy, PartialEq, Eq, Debug, Default)]
+pub struct EntryNumbers {
+    pub kind: u64,
+    pub clock: u64,
+    pub a: u64,
+    pub s: u64,
+    pub d: u64,
+    pub m: u64,
+    pub start: u64,
+    pub len: u64,
+    pub next_entry: u64,
+    pub next_body: u64,
+}
+
+/// A verdict. `refused` 0: ending, stop, records, calls; 1: number, place, divergence, calls.
+#[repr(C)]
+#[derive(Clone, Copy, PartialEq, Eq, Debug, Default)]
+pub struct VerdictNumbers {
+    pub refused: u64,
+    pub a: u64,
+    pub b: u64,
+    pub c: u64,
+    pub d: u64,
+}
+
+/// A handover. `number` is 1 completed, 2 failed, 3 input, else the refusal's; `file` is 1
+/// for a part of the journal, 2 for a part of the plan.
+#[repr(C)]
+#[derive(Clone, Copy, PartialEq, Eq, Debug, Default)]
+pub struct HandoverNumbers {
+    pub number: u64,
+    pub file: u64,
+    pub start: u64,
+    pub len: u64,
+}
+
+/// What the plain reader says of a file.
+pub fn read(format: Format, file: &[u8]) -> ReadNumbers {
+    let read = match format {
+        Format::Journal => {
+            reader::read_journal(file).map(|journal| (journal.run().0, journal.count()))
+        }
+        Format::Plan => {
+            reader::read_plan(file).map(|plan| (plan.capability() as u64, plan.count()))
+        }
+    };
+    match read {
+        Ok((head, count)) => ReadNumbers {
+            head,
+            count,
+            ..ReadNumbers::default()
+        },
+        Err(Refused { number, place }) => ReadNumbers {
+            number,
+            place,
+            ..ReadNumbers::default()
+        },
+    }
+}
+
+/// The entries of a file, nothing where it is refused.
+pub fn entries(format: Format, file: &[u8]) -> Vec<EntryNumbers> {
+    let mut walked = Walked {
+        file,
+        body: (reader::HEADER + reader::ENTRY * read(format, file).count as usize) as u64,
+        entries: Vec::new(),
+    };
+    match format {
+        Format::Journal => {
+            let records = reader::read_journal(file).map(|journal| journal.records());
+            for record in records.into_iter().flatten() {
+                let (entry, body) = record_entry(&record);
+                walked.push(entry, body);
+            }
+        }
+        Format::Plan => {
+            let steps = reader::read_plan(file).map(|plan| plan.steps());
+            for step in steps.into_iter().flatten() {
+                let (entry, body) = step_entry(&step);
+                walked.push(entry, body);
+            }
+        }
+    }
+    walked.entries
+}
+
+/// The entries so far, and where the next body starts.
+struct Walked<'a> {
+    file: &'a [u8],
+    body: u64,
+    entries: Vec<EntryNumbers>,
+}
+
+impl Walked<'_> {
+    fn push(&mut self, entry: Entry, body: Option<&[u8]>) {
+        let [start, len] = body.map_or([0, 0], |body| part(self.file, body));
+        self.body += len;
+        self.entries.push(EntryNumbers {
+            kind: entry.kind.into(),
+            clock: entry.clock.into(),
+            a: entry.a.into(),
+            s: entry.s.into(),
+            d: entry.d,
+            m: entry.m,
+            start,
+            len,
+            next_entry: self.entries.len() as u64 + 1,
+            next_body: self.body,
+        });
+    }
+}
+
+/// Where a part starts in its file, and its length.
+fn part(file: &[u8], part: &[u8]) -> [u64; 2] {
+    let start = part.as_ptr().addr() - file.as_ptr().addr();
+    [start as u64, part.len() as u64]
+}
+
+pub fn verdict(verdict: &Verdict) -> VerdictNumbers {
+    let (refused, [a, b, c, d]) = match *verdict {
+        Verdict::Ok {
+            ending,
+            stop,
+            records,
+            calls,
+        } => (0, [ending_number(ending), stop, records, calls]),
+        Verdict::No {
+            number,
+            place,
+            divergence,
+            calls,
+        } => (1, [number, place, divergence, calls]),
+    };
+    VerdictNumbers {
+        refused,
+        a,
+        b,
+        c,
+        d,
+    }
+}
+
+fn ending_number(ending: Ending) -> u64 {
+    match ending {
+        Ending::Unstarted => 0,
+        Ending::Due => 1,
+        Ending::Done => 2,
+        Ending::Open => 3,
+        Ending::Finished => 4,
+    }
+}
+
+/// A refusal's part is the empty part of the journal, at its start.
+pub fn handover(journal: &[u8], plan: &[u8], handover: &Handover<'_>) -> HandoverNumbers {
+    let (number, file, [start, len]) = match *handover {
+        Handover::Completed(body) => (1, 1, part(journal, body)),
+        Handover::Failed(body) => (2, 1, part(journal, body)),
+        Handover::Input(body) => (3, 2, part(plan, body)),
+        Handover::Refused(number) => (number, 1, [0, 0]),
+    };
+    HandoverNumbers {
+        number,
+        file,
+        start,
+        len,
+    }
+}

@@ -1,0 +1,247 @@
+//! Every list of records over a small alphabet, against every small plan: the verdict is held
+//! against the definition of histories, and the proved verdict against the verdict.
+
+use waymaker_core::{
+    ActivityKind, ClockCapability, ClockKind, EffectRequest, EffectSeq, GateId, RecordRef, RunId,
+    TimerSpec,
+};
+
+use crate::Settings;
+use crate::judge::Judge;
+use crate::reader::Step;
+use crate::report::{differ_on_pair, same_pair, same_verdict};
+use crate::resume::{Ending, Verdict, procedure};
+use crate::writing;
+
+const RUN: RunId = RunId(7);
+
+pub fn run(settings: &Settings) -> String {
+    let whole = every_list(settings.list_depth);
+    let steps = [
+        effect(1, 0, 5),
+        boot(5),
+        persistent(5),
+        effect(2, 1, 6),
+        boot(6),
+    ];
+    let alphabet = letters(&[0, 1, 2, 3, u32::MAX], true);
+    let mut followed = 0;
+    for_each_plan(&steps, |scope| {
+        scope.follow(&alphabet);
+        followed += scope.lists;
+    });
+    format!(
+        "{whole} lists, every one of up to {} records; {followed} lists, longer where they begin a history",
+        settings.list_depth
+    )
+}
+
+/// Every list up to this many records, over the smaller alphabet.
+fn every_list(depth: u32) -> u64 {
+    let steps = [effect(1, 0, 5), boot(5), persistent(5)];
+    let alphabet = letters(&[0, 1, 2], false);
+    let mut lists = 0;
+    for_each_plan(&steps, |scope| {
+        scope.all(&alphabet, depth);
+        lists += scope.lists;
+    });
+    lists
+}
+
+/// Every plan of 0 to 3 of these steps, with both capabilities.
+fn for_each_plan(steps: &[Step<'static>], mut with: impl FnMut(&mut Scope)) {
+    let mut plans = vec![Vec::new()];
+    for _ in 0..=3 {
+        let mut longer = Vec::new();
+        for plan in &plans {
+            for capability in [ClockCapability::BootOnly, ClockCapability::Persistent] {
+                with(&mut Scope::new(capability, plan.clone()));
+            }
+            longer.extend(steps.iter().map(|step| [&plan[..], &[*step]].concat()));
+        }
+        plans = longer;
+    }
+}
+
+fn effect(kind: u16, input_len: u16, input_crc: u32) -> Step<'static> {
+    Step::Effect {
+        request: EffectRequest {
+            kind: ActivityKind(kind),
+            input_len,
+            input_crc,
+        },
+        input: &[9; 8][..input_len.into()],
+    }
+}
+
+fn boot(ticks: u64) -> Step<'static> {
+    Step::Timer(TimerSpec::AfterBoot { ticks })
+}
+
+fn persistent(instant: u64) -> Step<'static> {
+    Step::Timer(TimerSpec::AtPersistentTime { instant })
+}
+
+/// All nine kinds with these numbers: right and wrong activities, lengths, CRCs, clocks and
+/// deadlines. `free`: also with other values where a history leaves them free.
+fn letters(numbers: &[u32], free: bool) -> Vec<RecordRef<'static>> {
+    let mut letters = vec![
+        started(3, &[]),
+        RecordRef::RunCompleted { result: &[] },
+        RecordRef::RunFailed { error: &[1] },
+    ];
+    if free {
+        letters.push(started(4, &[1, 2]));
+    }
+    for seq in numbers.iter().map(|number| EffectSeq(*number)) {
+        effects(&mut letters, seq);
+        timers(&mut letters, seq, free);
+        letters.push(RecordRef::EffectCompleted { seq, result: &[] });
+        letters.push(RecordRef::EffectFailed { seq, error: &[2] });
+        if free {
+            let result = &[1, 2, 3];
+            letters.push(RecordRef::EffectCompleted { seq, result });
+        }
+        letters.push(RecordRef::TimerFired { seq });
+        letters.push(RecordRef::VersionMarker {
+            seq,
+            gate: GateId(1),
+            version: 1,
+        });
+    }
+    letters
+}
+
+fn started(workflow_kind: u16, input: &'static [u8]) -> RecordRef<'static> {
+    RecordRef::RunStarted {
+        workflow_kind,
+        workflow_version: 1,
+        input,
+    }
+}
+
+fn effects(letters: &mut Vec<RecordRef<'static>>, seq: EffectSeq) {
+    let wanted = [(1, 0, 5), (2, 0, 5), (1, 1, 5), (1, 0, 6), (2, 1, 6)];
+    letters.extend(
+        wanted.map(|(kind, input_len, input_crc)| RecordRef::EffectScheduled {
+            seq,
+            kind: ActivityKind(kind),
+            input_len,
+            input_crc,
+        }),
+    );
+}
+
+fn timers(letters: &mut Vec<RecordRef<'static>>, seq: EffectSeq, free: bool) {
+    let (clocks, armed): (&[u8], &[u64]) = match free {
+        true => (&[0, 1, 2, 3, 255], &[100, u64::MAX]),
+        false => (&[1, 2, 3], &[100]),
+    };
+    for clock in clocks {
+        for deadline in [5, 6] {
+            letters.extend(armed.iter().map(|armed_at| RecordRef::TimerScheduled {
+                seq,
+                clock_kind: ClockKind(*clock),
+                deadline,
+                armed_at: *armed_at,
+            }));
+        }
+    }
+}
+
+/// One plan, and the list of records at hand.
+struct Scope {
+    judge: Judge<'static>,
+    plan: Vec<u8>,
+    records: Vec<RecordRef<'static>>,
+    lists: u64,
+}
+
+impl Scope {
+    fn new(capability: ClockCapability, steps: Vec<Step<'static>>) -> Scope {
+        Scope {
+            plan: writing::plan(capability, &steps).bytes(),
+            judge: Judge::new(capability, steps),
+            records: Vec::new(),
+            lists: 0,
+        }
+    }
+
+    /// This list, and every longer one up to so many more records.
+    fn all(&mut self, alphabet: &[RecordRef<'static>], depth: u32) {
+        self.check();
+        if depth > 0 {
+            for letter in alphabet {
+                self.records.push(*letter);
+                self.all(alphabet, depth - 1);
+                self.records.pop();
+            }
+        }
+    }
+
+    /// This list, and every longer one as long as it begins a history. Past the first record
+    /// that does not fit, a few more records are tried: they must change nothing.
+    fn follow(&mut self, alphabet: &[RecordRef<'static>]) {
+        let verdict = self.check();
+        if let Verdict::No { place, .. } = verdict
+            && place < self.records.len() as u64
+        {
+            for letter in &alphabet[..4] {
+                self.records.push(*letter);
+                if self.check() != verdict {
+                    self.wrong("a record after the refused one changes the verdict");
+                }
+                self.records.pop();
+            }
+            return;
+        }
+        for letter in alphabet {
+            self.records.push(*letter);
+            self.follow(alphabet);
+            self.records.pop();
+        }
+    }
+
+    /// Holds the verdict on this list against the definition.
+    fn check(&mut self) -> Verdict {
+        self.lists += 1;
+        let verdict = procedure(
+            RUN,
+            self.judge.capability,
+            self.judge.steps.iter().copied(),
+            self.records.iter().copied(),
+        );
+        if let Some(contradiction) = self.judge.contradiction(&self.records, &verdict) {
+            self.wrong(contradiction);
+        }
+        match verdict {
+            Verdict::Ok { ending, stop, .. } => self.check_handovers(&verdict, ending, stop),
+            Verdict::No { .. } => same_verdict(&verdict, || self.journal(), &self.plan),
+        }
+        verdict
+    }
+
+    /// An accepted list as bytes: the same verdict, and what is handed over.
+    fn check_handovers(&self, verdict: &Verdict, ending: Ending, stop: u64) {
+        let journal = self.journal();
+        let boundaries = || 0..=self.judge.steps.len() as u64 + 1;
+        if same_pair(&journal, &self.plan, boundaries()) != *verdict {
+            self.wrong("its bytes have another verdict");
+        }
+        let pair = (&journal[..], &self.plan[..]);
+        let wrong = self
+            .judge
+            .wrong_handover(pair, &self.records, (ending, stop), boundaries());
+        if let Some(boundary) = wrong {
+            self.wrong(&format!("handover of {boundary}"));
+        }
+    }
+
+    fn journal(&self) -> Vec<u8> {
+        writing::journal(RUN, &self.records).bytes()
+    }
+
+    fn wrong(&self, what: &str) -> ! {
+        differ_on_pair(what, &self.journal(), &self.plan);
+    }
+}

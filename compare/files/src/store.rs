@@ -1,0 +1,102 @@
+//! Writes the stored lists: files and pairs, and the answers of the plain Rust to them.
+
+use std::collections::BTreeSet;
+use std::fs;
+use std::io;
+use std::path::Path;
+
+use crate::damaged_list;
+use crate::pairs_list;
+use crate::resume::{Handover, Verdict, handover, verdict};
+
+/// The most bytes of a list.
+const LIMIT: usize = 60_000;
+
+/// The numbers that a file can be refused with.
+const READING: [u64; 17] = [1, 2, 3, 4, 6, 7, 8, 9, 11, 12, 13, 14, 15, 16, 17, 18, 19];
+/// The numbers, each with its divergence, that a readable pair can be refused with.
+const REFUSALS: [(u64, u64); 9] = [
+    (22, 1),
+    (22, 2),
+    (22, 3),
+    (22, 4),
+    (22, 6),
+    (23, 0),
+    (24, 0),
+    (25, 0),
+    (31, 0),
+];
+
+/// Writes `damaged` and `verdicts` in the folder, each with `stdin` and `stdout`.
+pub fn write(folder: &str) -> io::Result<()> {
+    let (files, answers) = damaged();
+    write_list(&Path::new(folder).join("damaged"), &files, &answers)?;
+    let (pairs, answers) = verdicts();
+    write_list(&Path::new(folder).join("verdicts"), &pairs, &answers)
+}
+
+fn write_list(folder: &Path, list: &str, answers: &str) -> io::Result<()> {
+    let name = folder.display();
+    assert!(list.len() <= LIMIT, "{name}: {} bytes", list.len());
+    fs::create_dir_all(folder)?;
+    fs::write(folder.join("stdin"), list)?;
+    fs::write(folder.join("stdout"), answers)?;
+    println!(
+        "{name}: {} lines, {} bytes",
+        list.lines().count(),
+        list.len()
+    );
+    Ok(())
+}
+
+fn damaged() -> (String, String) {
+    let (mut files, mut answers) = (String::new(), String::new());
+    let mut numbers = BTreeSet::new();
+    for (format, file) in damaged_list::list() {
+        let answer = damaged_list::answer(format, &file);
+        numbers.insert(answer.split(' ').next().map(str::to_string));
+        files += &damaged_list::line(format, &file);
+        files += "\n";
+        answers += &answer;
+        answers += "\n";
+    }
+    for number in READING {
+        assert!(numbers.contains(&Some(number.to_string())), "no {number}");
+    }
+    (files, answers)
+}
+
+fn verdicts() -> (String, String) {
+    let (mut pairs, mut answers) = (String::new(), String::new());
+    let mut refusals = BTreeSet::new();
+    for (journal, plan) in pairs_list::list() {
+        pairs += &pairs_list::lines(&journal, &plan);
+        let verdict = verdict(&journal, &plan);
+        if let Verdict::No {
+            number, divergence, ..
+        } = verdict
+        {
+            refusals.insert((number, divergence));
+        }
+        answers += &format!("{verdict}\n");
+        for boundary in 0..4 {
+            answers += &handover_line(boundary, &handover(&journal, &plan, boundary));
+        }
+    }
+    for refusal in READING.map(|number| (number, 0)).iter().chain(&REFUSALS) {
+        assert!(refusals.contains(refusal), "no {refusal:?}");
+    }
+    (pairs, answers)
+}
+
+/// The boundary, the number and the length; of bytes handed over, also their sum.
+fn handover_line(boundary: u64, handover: &Handover<'_>) -> String {
+    let (number, part) = match *handover {
+        Handover::Completed(part) => (1, part),
+        Handover::Failed(part) => (2, part),
+        Handover::Input(part) => (3, part),
+        Handover::Refused(number) => return format!("handover {boundary} {number} 0\n"),
+    };
+    let sum: u64 = part.iter().map(|byte| u64::from(*byte)).sum();
+    format!("handover {boundary} {number} {} {sum}\n", part.len())
+}
