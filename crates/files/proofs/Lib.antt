@@ -5,4 +5,5 @@ pub mod Header
 pub mod Steps
 pub mod Passing
 pub mod Laws
+pub mod Bodies
 pub mod Canonical
