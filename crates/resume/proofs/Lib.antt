@@ -2,3 +2,5 @@ pub mod Places
 pub mod Rules
 pub mod Loops
 pub mod Keeps
+pub mod Outcomes
+pub mod Parts
