@@ -43,13 +43,13 @@ pub struct VerdictNumbers {
     pub d: u64,
 }
 
-/// A handover. `number` is 1 completed, 2 failed, 3 input, else the refusal's; `file` is 1
-/// for a part of the journal, 2 for a part of the plan.
+/// A handover. `number` 0: `what` is 1 completed, 2 failed (parts of the journal) or 3 input
+/// (a part of the plan), with its start and length; else the refusal's number.
 #[repr(C)]
 #[derive(Clone, Copy, PartialEq, Eq, Debug, Default)]
 pub struct HandoverNumbers {
     pub number: u64,
-    pub file: u64,
+    pub what: u64,
     pub start: u64,
     pub len: u64,
 }
@@ -172,15 +172,15 @@ fn ending_number(ending: Ending) -> u64 {
 
 /// A refusal's part is the empty part of the journal, at its start.
 pub fn handover(journal: &[u8], plan: &[u8], handover: &Handover<'_>) -> HandoverNumbers {
-    let (number, file, [start, len]) = match *handover {
-        Handover::Completed(body) => (1, 1, part(journal, body)),
-        Handover::Failed(body) => (2, 1, part(journal, body)),
-        Handover::Input(body) => (3, 2, part(plan, body)),
-        Handover::Refused(number) => (number, 1, [0, 0]),
+    let (number, what, [start, len]) = match *handover {
+        Handover::Completed(body) => (0, 1, part(journal, body)),
+        Handover::Failed(body) => (0, 2, part(journal, body)),
+        Handover::Input(body) => (0, 3, part(plan, body)),
+        Handover::Refused(number) => (number, 0, [0, 0]),
     };
     HandoverNumbers {
         number,
-        file,
+        what,
         start,
         len,
     }

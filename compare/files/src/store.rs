@@ -89,14 +89,14 @@ fn verdicts() -> (String, String) {
     (pairs, answers)
 }
 
-/// The boundary, the number and the length; of bytes handed over, also their sum.
+/// The boundary, what is handed over with its length and the sum of its bytes, or the number.
 fn handover_line(boundary: u64, handover: &Handover<'_>) -> String {
-    let (number, part) = match *handover {
-        Handover::Completed(part) => (1, part),
-        Handover::Failed(part) => (2, part),
-        Handover::Input(part) => (3, part),
-        Handover::Refused(number) => return format!("handover {boundary} {number} 0\n"),
+    let (what, part) = match *handover {
+        Handover::Completed(part) => ("completed", part),
+        Handover::Failed(part) => ("failed", part),
+        Handover::Input(part) => ("input", part),
+        Handover::Refused(number) => return format!("handover {boundary} refused {number} 0\n"),
     };
     let sum: u64 = part.iter().map(|byte| u64::from(*byte)).sum();
-    format!("handover {boundary} {number} {} {sum}\n", part.len())
+    format!("handover {boundary} {what} {} {sum}\n", part.len())
 }

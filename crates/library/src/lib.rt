@@ -2,6 +2,8 @@
 //
 // Owns: the numbers of each answer at the boundary. Must not own: any rule; each export is one call of the library.
 // Defends: any bytes and any numbers may be passed; no export has a `requires`.
+pub mod verdicts;
+
 ghost use mathlib.Core.Path.{_≡_};
 ghost use Rattle.files.specs.Reading.{journalRule, planRule};
 ghost use Rattle.files.specs.Contents.{nextRecord, nextStep};

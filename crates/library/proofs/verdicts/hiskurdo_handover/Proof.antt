@@ -1,0 +1,18 @@
+-- `library::verdicts::hiskurdo_handover` meets its contract: by what is handed over.
+-- Assumes nothing.
+use borrow.Author.Needs.{needs}
+use mathlib.Core.Path.{refl, sym, _∙_}
+use Rattle.errors.proofs.Arms.{by-arm}
+use Rattle.library.specs.VerdictNumbers.{handoverNumbers}
+use Rattle.library.proofs.verdicts.hiskurdo_handover.Statement.{statement}
+use Rattle.library.proofs.verdicts.hiskurdo_handover.Tie as tie
+
+pub hiskurdo-handover-spec : {M : Type 1} → statement M
+hiskurdo-handover-spec =
+    tie.close
+    (tie.spec (λ c κs. search needs) (λ c. search needs) (λ c κs. search needs) (λ c. search needs) (λ c κs. search needs)
+    (λ c. search needs) (λ c κs. search needs) (λ c. search needs)
+    (λ c. by-arm handoverNumbers (sym (c .before .before .before .before .handover-case .ensures .0) ∙ c .before .before .body .given .1) (c .given .ensures))
+    (λ c. by-arm handoverNumbers (sym (c .before .before .before .before .handover-case .ensures .0) ∙ c .before .before .body2 .given .1) (c .given2 .ensures))
+    (λ c. by-arm handoverNumbers (sym (c .before .before .before .before .handover-case .ensures .0) ∙ c .before .before .body3 .given .1) (c .given3 .ensures))
+    (λ c. by-arm handoverNumbers (sym (c .before .before .before .handover-case .ensures .0) ∙ c .before .number .given .1) refl))
