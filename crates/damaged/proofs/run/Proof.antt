@@ -1,14 +1,14 @@
--- `damaged::run` meets its contract: the loop stays within the text. The measure is the text left.
+-- `damaged::run` meets its contract: the loop keeps the room. The measure is the text left.
 -- Assumes nothing.
 use borrow.Author.Needs.{needs}
-use Prim.Native.Nat.{_-_, _≤_}
+use Prim.Native.Nat.{_-_}
 use lib.ListN.{length}
 use mathlib.Core.Path.{_≡_}
 use Rattle.damaged.proofs.run.Statement.{statement}
 use Rattle.damaged.proofs.run.Tie as tie
 
 abbrev Inv-loop : tie.InvT-loop
-Inv-loop text file₀ at₀ file at = (at ≤ length text) × (length file ≡ length file₀)
+Inv-loop text file₀ at₀ file at = length file ≡ length file₀
 
 abbrev μ-loop : tie.MeasureT-loop
 μ-loop text file₀ at₀ file at = length text - at
@@ -16,5 +16,5 @@ abbrev μ-loop : tie.MeasureT-loop
 pub run-spec : {M : Type 1} → statement M
 run-spec =
     tie.close
-    (tie.spec Inv-loop μ-loop (λ c. search needs) (λ c. search needs) (λ c. search needs) (λ c κs. search needs)
-    (λ c κs. search needs) (λ c. search needs) (λ c. search needs) (λ c. search needs) (λ c. search needs))
+    (tie.spec Inv-loop μ-loop (λ c. search needs) (λ c κs. search needs) (λ c κs. search needs) (λ c. search needs)
+    (λ c. search needs) (λ c. search needs) (λ c. search needs))

@@ -1,11 +1,11 @@
--- `damaged::read_file` meets its contract: the loop stays within text and file. The measure is the text left.
+-- `described::read_file` meets its contract: the loop stays within text and file. The measure is the text left.
 -- Assumes nothing.
 use borrow.Author.Needs.{needs}
 use Prim.Native.Nat.{_-_, _+_, _≤_, _<_}
 use lib.ListN.{length}
 use mathlib.Core.Path.{_≡_}
-use Rattle.damaged.proofs.read_file.Statement.{statement}
-use Rattle.damaged.proofs.read_file.Tie as tie
+use Rattle.described.proofs.read_file.Statement.{statement}
+use Rattle.described.proofs.read_file.Tie as tie
 
 abbrev Inv-loop : tie.InvT-loop
 Inv-loop text from file₀ at₀ len₀ file at len = (from ≤ at) × (at ≤ length text) × (len ≤ length file) × (length file ≡ length file₀)

@@ -1,11 +1,11 @@
--- `damaged::read_hex` meets its contract: the loop stays within text and file. The measure is the text left.
+-- `described::read_hex` meets its contract: the loop stays within text and file. The measure is the text left.
 -- Assumes nothing.
 use borrow.Author.Needs.{needs}
 use Prim.Native.Nat.{_-_, _+_, _≤_, _<_}
 use lib.ListN.{length}
 use mathlib.Core.Path.{_≡_}
-use Rattle.damaged.proofs.read_hex.Statement.{statement}
-use Rattle.damaged.proofs.read_hex.Tie as tie
+use Rattle.described.proofs.read_hex.Statement.{statement}
+use Rattle.described.proofs.read_hex.Tie as tie
 
 abbrev Inv-loop : tie.InvT-loop
 Inv-loop text begin file₀ from at₀ len₀ file at len = (begin ≤ at) × (at ≤ length text) × (from ≤ len) × (len ≤ length file₀) × (length file ≡ length file₀)

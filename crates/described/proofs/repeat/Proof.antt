@@ -1,13 +1,13 @@
--- `damaged::repeat` meets its contract: the loop stays within the file. The measure is what is left to repeat.
+-- `described::repeat` meets its contract: the loop stays within the file. The measure is what is left to repeat.
 -- Assumes nothing.
 use borrow.Author.Needs.{needs}
 use Prim.Native.Nat.{_-_, _≤_}
 use lib.ListN.{length}
 use mathlib.Core.Path.{_≡_}
 use native.Mathlib.Omega.{arith}
-use Rattle.damaged.proofs.Product.{small}
-use Rattle.damaged.proofs.repeat.Statement.{statement}
-use Rattle.damaged.proofs.repeat.Tie as tie
+use Rattle.described.proofs.Product.{small}
+use Rattle.described.proofs.repeat.Statement.{statement}
+use Rattle.described.proofs.repeat.Tie as tie
 
 abbrev Inv-loop : tie.InvT-loop
 Inv-loop file₀ start end times size stop at₀ file at = (end ≤ at) × (at ≤ length file₀) × (length file ≡ length file₀)
