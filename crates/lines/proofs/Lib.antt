@@ -1,2 +1,3 @@
 mod Decimal
 mod Written
+mod Right
