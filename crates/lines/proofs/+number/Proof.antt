@@ -34,10 +34,10 @@ add-push : (t : ℕ) → number-lts.Need-add-push (push-reads.Asked, push-reads.
 add-push t c = search needs
 
 push-requires : (t : ℕ) → number-lts.Need-push-requires (push-reads.Asked, push-reads.Learnt, number-below t, number.Post) (number-at t) number.Post
-push-requires t c κs = omega (arith, ap length (decimal-last (c .before .args .n) (c .if1 .taken)))
+push-requires t c κs = omega (arith, ap length (decimal-last (c .before .args .n) (omega arith)))
 
 returns : (t : ℕ) → number-lts.Need-returns (push-reads.Asked, push-reads.Learnt, number-below t, number.Post) (number-at t) number.Post
-returns t c = rw (decimal-last (c .before .before .args .n) (c .before .if1 .taken)) (c .push .ensures .0)
+returns t c = rw (decimal-last (c .before .before .args .n) (omega arith)) (c .push .ensures .0)
 
 number-requires : (t : ℕ) → number-lts.Need-number-requires (push-reads.Asked, push-reads.Learnt, number-below t, number.Post) (number-at t) number.Post
 number-requires t c κs = (omega arith, omega (arith, decimal-longer (c .before .args .n) (omega arith)))
