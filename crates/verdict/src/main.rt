@@ -1,17 +1,27 @@
 // Prints the verdict on the files run.jnl and run.pln of the folder that it is run in, as one line (01, "`verdict` reads").
 //
-// Only this program reads files here: what it reads and prints is tested, and no contract can say it.
+// Reading and printing are tested; no contract can speak of them. The line between them is proved.
 ghost use Rattle.io.specs.Counts.{Counts};
+ghost use Rattle.lines.specs.Line.{lineOf, Holds};
+ghost use Rattle.resume.specs.Verdict.{verdictRule};
+use lines::Line;
 
 fn main() {
     let mut journal = [0u8; 32770];
     let mut plan = [0u8; 32770];
     let n = contents(b"run.jnl", &mut journal);
     let m = contents(b"run.pln", &mut plan);
-    let line = lines::line_of(resume::verdict(&journal[..n], &plan[..m]));
+    let line = verdict_line(&journal[..n], &plan[..m]);
     let bytes = line.bytes;
     let len = line.len;
     io::write_all(1, &bytes[..len]);
+}
+
+// The line for these two files' bytes.
+fn verdict_line(journal: &[u8], plan: &[u8]) -> Line
+    ensures { λ r. ⌜ Holds r (lineOf (verdictRule (now (journal .entry)) (now (plan .entry)))) ⌝ }
+{
+    lines::line_of(resume::verdict(journal, plan))
 }
 
 // How many bytes of a file stand at the start of room; 0 for a file that cannot be read.
