@@ -25,9 +25,11 @@ spaced [] = 10 ∷ []
 spaced (field ∷ []) = field ++ (10 ∷ [])
 spaced (field ∷ (next ∷ fields)) = field ++ (32 ∷ spaced (next ∷ fields))
 
+-- "`ok`"
 abbrev pub okWord : List ℕ
 okWord = 111 ∷ 107 ∷ []
 
+-- "`no`"
 abbrev pub noWord : List ℕ
 noWord = 110 ∷ 111 ∷ []
 

@@ -1,11 +1,6 @@
 -- `lines::field` meets its contract: the digits, then the byte. 20 digits are enough.
 -- Assumes nothing.
-use Prim.Native.Nat.{_+_, _≤_}
-use mathlib.Core.Path.{_≡_, _∙_, ap}
 use native.Mathlib.Omega.{arith}
-use lib.ListN.{length}
-use Rattle.lines.specs.declared.Line.{Line}
-use Rattle.lines.specs.Line.{decimal}
 use Rattle.lines.proofs.Decimal.{twenty}
 use Rattle.lines.proofs.Written.{written-append, number-len}
 use Rattle.lines.proofs.field.Statement.{statement}

@@ -1,9 +1,6 @@
 -- `lines::line_of` meets its contract: each arm has its own function.
 -- Assumes nothing.
 use borrow.Author.Needs.{needs}
-use mathlib.Core.Path.{_≡_, sym, subst}
-use Rattle.histories.specs.declared.Answer.{Answer}
-use Rattle.lines.specs.Line.{lineOf, Holds}
 use Rattle.lines.proofs.line_of.Statement.{statement}
 use Rattle.lines.proofs.line_of.Tie as tie
 
