@@ -1,0 +1,25 @@
+-- `lines::refused` meets its contract: its word and four numbers are written on an empty line.
+-- Assumes nothing.
+use borrow.Author.Needs.{needs}
+use native.Mathlib.Omega.{arith}
+use Rattle.histories.specs.declared.Answer.the-variants as Answer
+use Rattle.lines.specs.Line.{lineOf}
+use Rattle.lines.proofs.Written.{written-append, held}
+use Rattle.lines.proofs.refused.Statement.{statement}
+use Rattle.lines.proofs.refused.Tie as tie
+
+returns : tie.Need-returns
+unfolding lineOf
+returns c =
+    let write = c .before .before in
+    let empty = write .before .before in
+    let args = empty .before .args in
+    held (c .numbers .result) (lineOf (Answer.No (args .number) (args .place) (args .divergence) (args .calls)))
+    (rw (c .numbers .ensures .0, c .before .field .ensures .0, write .write .ensures .0, empty .empty .ensures .0)
+    (simp written-append))
+    (omega arith)
+
+pub refused-spec : {M : Type 1} → statement M
+refused-spec =
+    tie.close
+    (tie.spec (λ c κs. search needs) (λ c. search needs) (λ c κs. search needs) (λ c κs. search needs) (λ c κs. search needs) returns)
