@@ -4,6 +4,7 @@ use borrow.Author.Needs.{needs}
 use Prim.Native.Nat.{_-_}
 use lib.ListN.{length}
 use mathlib.Core.Path.{_≡_}
+use native.Mathlib.Omega.{arith}
 use Rattle.damaged.proofs.run.Statement.{statement}
 use Rattle.damaged.proofs.run.Tie as tie
 
@@ -16,5 +17,6 @@ abbrev μ-loop : tie.MeasureT-loop
 pub run-spec : {M : Type 1} → statement M
 run-spec =
     tie.close
-    (tie.spec Inv-loop μ-loop (λ c. search needs) (λ c κs. search needs) (λ c κs. search needs) (λ c. search needs)
+    (tie.spec Inv-loop μ-loop (λ c. search needs) (λ c κs. search needs) (λ c κs. search needs)
+    (λ c. omega (arith, c .before .before .before .before .read-line .ensures .0 .1 (c .before .before .before .before .before .before .loop-test .taken)))
     (λ c. search needs) (λ c. search needs) (λ c. search needs))

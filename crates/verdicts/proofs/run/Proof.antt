@@ -1,0 +1,22 @@
+-- `verdicts::run` meets its contract: the loop keeps the room. The measure is the text left.
+-- Assumes nothing.
+use borrow.Author.Needs.{needs}
+use Prim.Native.Nat.{_-_}
+use mathlib.Core.Path.{_≡_}
+use lib.ListN.{length}
+use native.Mathlib.Omega.{arith}
+use Rattle.verdicts.proofs.run.Statement.{statement}
+use Rattle.verdicts.proofs.run.Tie as tie
+
+abbrev Inv-loop : tie.InvT-loop
+Inv-loop text journal₀ plan₀ at₀ journal plan at = (length journal ≡ length journal₀) × (length plan ≡ length plan₀)
+
+abbrev μ-loop : tie.MeasureT-loop
+μ-loop text journal₀ plan₀ at₀ journal plan at = length text - at
+
+pub run-spec : {M : Type 1} → statement M
+run-spec =
+    tie.close
+    (tie.spec Inv-loop μ-loop (λ c. search needs) (λ c κs. search needs) (λ c κs. search needs) (λ c κs. search needs)
+    (λ c. omega (arith, c .before .before .before .before .before .before .before .before .before .read-line .ensures .0 .1 (c .before .before .before .before .before .before .before .before .before .before .before .loop-test .taken), c .before .before .before .before .before .read-line2 .ensures .0 .0))
+    (λ c. search needs) (λ c. search needs) (λ c. search needs) (λ c. search needs))
