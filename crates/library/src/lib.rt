@@ -111,6 +111,13 @@ fn entry_with(kind: u8, clock: u8, a: u16, s: u32, d: u64, m: u64) -> Entry
     }
 }
 
+// The entry of a record that is its number and its body.
+fn bodied(kind: u8, s: u32, body: Body) -> Entry
+    ensures { λ r. ⌜ r ≡ entryWith kind 0 0 s 0 (body .len) ⌝ }
+{
+    entry_with(kind, 0, 0, s, 0, body.len as u64)
+}
+
 // The entry that says this record.
 fn record_entry(record: RecordRef) -> Entry
     ensures { λ r. ⌜ r ≡ recordEntry «record» ⌝ }
@@ -136,15 +143,8 @@ fn record_entry(record: RecordRef) -> Entry
             input_len,
             input_crc,
         } => { entry_with(2, 0, kind.0, seq.0, input_len as u64, input_crc as u64) }
-        RecordRef::EffectCompleted { seq, result } => entry_with(
-            3,
-            0,
-            0,
-            seq.0,
-            0,
-            result.len as u64,
-        ),
-        RecordRef::EffectFailed { seq, error } => entry_with(4, 0, 0, seq.0, 0, error.len as u64),
+        RecordRef::EffectCompleted { seq, result } => bodied(3, seq.0, result),
+        RecordRef::EffectFailed { seq, error } => bodied(4, seq.0, error),
         RecordRef::TimerScheduled {
             seq,
             clock_kind,
@@ -152,8 +152,8 @@ fn record_entry(record: RecordRef) -> Entry
             armed_at,
         } => { entry_with(5, clock_kind.0, 0, seq.0, deadline, armed_at) }
         RecordRef::TimerFired { seq } => entry_with(6, 0, 0, seq.0, 0, 0),
-        RecordRef::RunCompleted { result } => entry_with(7, 0, 0, 0, 0, result.len as u64),
-        RecordRef::RunFailed { error } => entry_with(8, 0, 0, 0, 0, error.len as u64),
+        RecordRef::RunCompleted { result } => bodied(7, 0, result),
+        RecordRef::RunFailed { error } => bodied(8, 0, error),
         RecordRef::VersionMarker { seq, gate, version } => {
             entry_with(9, 0, gate.0, seq.0, version as u64, 0)
         }
