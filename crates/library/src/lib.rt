@@ -124,19 +124,10 @@ fn record_entry(record: RecordRef) -> Entry
 {
     match record {
         RecordRef::RunStarted {
-            workflow_kind,
-            workflow_version,
+            workflow_kind: a,
+            workflow_version: version,
             input,
-        } => {
-            entry_with(
-                1,
-                0,
-                workflow_kind,
-                0,
-                workflow_version as u64,
-                input.len as u64,
-            )
-        }
+        } => { entry_with(1, 0, a, 0, version as u64, input.len as u64) }
         RecordRef::EffectScheduled {
             seq,
             kind,
