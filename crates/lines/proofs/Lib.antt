@@ -1,3 +1,4 @@
 mod Decimal
 mod Written
 mod Right
+mod Table

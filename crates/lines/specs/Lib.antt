@@ -1,2 +1,4 @@
 pub mod Line
+pub mod Rows
+pub mod Words
 pub mod Writing

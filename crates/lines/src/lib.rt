@@ -2,6 +2,8 @@
 //
 // Owns: the words, the digits, the spaces and the line feed. Must not own: what the answer is, where the line goes.
 // Defends: any answer at all has exactly its line, and nothing stands after it.
+pub mod words;
+
 ghost use mathlib.Core.Path.{_≡_};
 ghost use mathlib.Core.List.{[], _∷_, _++_};
 ghost use Prim.Native.Nat.{_+_, _≤_, _<_};
@@ -18,7 +20,7 @@ pub struct Line {
     pub len: usize,
 }
 
-fn push(line: Line, byte: u8) -> Line
+pub(crate) fn push(line: Line, byte: u8) -> Line
     requires { ⌜ line .len < 128 ⌝ }
     ensures { λ r. ⌜ r ≡ pushed line byte ⌝ }
     ensures { λ r. ⌜ r .len ≡ line .len + 1 ⌝ }
@@ -44,7 +46,7 @@ fn write(line: Line, text: &[u8]) -> Line
 }
 
 // The digits of a number: those of its tenth, where it has one, and the last.
-fn number(line: Line, n: u64) -> Line
+pub(crate) fn number(line: Line, n: u64) -> Line
     requires { ⌜ line .len + length (decimal n) ≤ 128 ⌝ }
     ensures { λ r. ⌜ r ≡ written line (decimal n) ⌝ }
 {
@@ -86,7 +88,7 @@ fn word(line: Line, ending: Ending) -> Line
     }
 }
 
-fn empty() -> Line
+pub(crate) fn empty() -> Line
     ensures { λ r. ⌜ r ≡ holding [] ⌝ }
     ensures { λ r. ⌜ r .len ≡ 0 ⌝ }
 {

@@ -1,0 +1,27 @@
+-- `lines::words::detail_of` meets its contract: a test for each case.
+-- Assumes nothing.
+use mathlib.Core.Path.{_≡_}
+use borrow.Author.Tests.{eq-eqb, ne-eqb}
+use Rattle.lines.proofs.words.detail_of.Statement.{statement}
+use Rattle.lines.proofs.words.detail_of.Tie as tie
+
+returns : tie.Need-returns
+returns c = rw (ne-eqb (c .before .args .number) 24 (c .if1 .taken))
+
+returns-2 : tie.Need-returns-2
+returns-2 c =
+    let args = c .before .before .args in
+    rw (eq-eqb (args .number) 24 (c .before .if1 .left), eq-eqb (args .place) 0 (c .if2 .taken))
+
+returns-3 : tie.Need-returns-3
+returns-3 c =
+    let args = c .before .before .before .args in
+    rw (eq-eqb (args .number) 24 (c .before .before .if1 .left), ne-eqb (args .place) 0 (c .before .if2 .left), c .if3 .taken)
+
+returns-4 : tie.Need-returns-4
+returns-4 c =
+    let args = c .before .before .before .args in
+    rw (eq-eqb (args .number) 24 (c .before .before .if1 .left), ne-eqb (args .place) 0 (c .before .if2 .left), c .if3 .left)
+
+pub detail-of-spec : {M : Type 1} → statement M
+detail-of-spec = tie.close (tie.spec returns returns-2 returns-3 returns-4)

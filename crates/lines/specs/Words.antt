@@ -1,0 +1,105 @@
+-- What an answer means in plain words: one table, with a row for each ending and each refusal that files can reach.
+use Prim.Native.Nat.{ℕ}
+use Prim.Native.Char.{code}
+use Prim.Native.String.{String, [] as «end», _∷_ as _then_}
+use mathlib.Core.Bool.{Bool, true, false, cond, _&&_}
+use mathlib.Core.List.{List, [], _∷_, _++_}
+use lib.Dec.{eqb}
+use Rattle.histories.specs.declared.Answer.{Answer}
+use Rattle.histories.specs.declared.Answer.the-variants as Answer
+use Rattle.histories.specs.declared.Ending.{Ending}
+use Rattle.histories.specs.declared.Ending.the-variants as Ending
+use Rattle.histories.specs.Told.{endingNumber}
+use Rattle.lines.specs.Line.{decimal}
+
+-- a text in bytes
+abbrev pub ascii : String → List ℕ
+ascii «end» = []
+ascii (c then text) = code c ∷ ascii text
+
+-- a refusal's number (0 of an ending), what tells apart those of one number, and the words; `#` stands for the step or the place
+pub record Row : Type 0 where
+  pub number : ℕ
+  pub detail : ℕ
+  pub words : String
+
+abbrev row : ℕ → ℕ → String → Row
+row number detail words = record { number = number; detail = detail; words = words }
+
+abbrev pub table : List Row
+table =
+    row 0 0 "Not started: no step has begun" ∷
+    row 0 1 "Start step #" ∷
+    row 0 2 "Nothing left to do: every step is done" ∷
+    row 0 3 "Deliver step # again: it was begun and has no outcome" ∷
+    row 0 4 "The run ended after # whole steps" ∷
+    row 1 0 "Journal: missing, unreadable or under 16 bytes" ∷
+    row 2 0 "Journal: over 32,768 bytes" ∷
+    row 3 0 "Journal: not a journal file" ∷
+    row 4 0 "Journal: more than 1,024 records" ∷
+    row 6 0 "Journal: cut short or grown, its length is not what its header says" ∷
+    row 7 0 "Journal: entry # has an unknown kind" ∷
+    row 8 0 "Journal: entry # has a field above its greatest value" ∷
+    row 9 0 "Journal: the bodies' lengths do not sum to the header's" ∷
+    row 11 0 "Plan: missing, unreadable or under 16 bytes" ∷
+    row 12 0 "Plan: over 32,768 bytes" ∷
+    row 13 0 "Plan: not a plan file" ∷
+    row 14 0 "Plan: more than 1,024 steps" ∷
+    row 15 0 "Plan: the board's clocks are not named by 0 or 1" ∷
+    row 16 0 "Plan: cut short or grown, its length is not what its header says" ∷
+    row 17 0 "Plan: entry # is neither an effect nor a timer" ∷
+    row 18 0 "Plan: entry # has a field that a plan may not have" ∷
+    row 19 0 "Plan: the inputs' lengths do not sum to the header's" ∷
+    row 22 1 "Steps carry consecutive numbers: record # has another number (a dispense lost or doubled)" ∷
+    row 22 2 "Each step matches the plan: record # has another activity" ∷
+    row 22 3 "Each step matches the plan: record # has another input, by its length or CRC" ∷
+    row 22 4 "Each step matches the plan: record # is of another kind than the step" ∷
+    row 22 6 "Each step matches the plan: record # has another clock or deadline" ∷
+    row 23 0 "Recorded timers fit this board's clocks: the timer of record # does not" ∷
+    row 24 0 "First record opens the run: record # does not (a file from another stage)" ∷
+    row 24 1 "Steps carry consecutive numbers: record # cannot follow the one before it (lost or doubled)" ∷
+    row 24 2 "An open step is never shown as done: record # is not the outcome of the step opened before it" ∷
+    row 25 0 "Recorded timers fit this board's clocks: the timer due after # records does not" ∷
+    row 31 0 "Each step matches the plan: record # opens a step beyond the plan's last" ∷ []
+
+abbrev pub otherWords : String
+otherWords = "No file can give this answer: keep both files and report them"
+
+abbrev pub isOf : ℕ → ℕ → Row → Bool
+isOf number detail r = eqb (r .number) number && eqb (r .detail) detail
+
+-- the words of the first row with this number and detail
+abbrev pub wordsIn : List Row → ℕ → ℕ → String
+wordsIn [] number detail = otherWords
+wordsIn (r ∷ rows) number detail = cond (isOf number detail r) (r .words) (wordsIn rows number detail)
+
+-- a text with the number n in the place of `#`
+abbrev pub shown : ℕ → ℕ → List ℕ
+shown n byte = cond (eqb byte 35) (decimal n) (byte ∷ [])
+
+abbrev pub filled : ℕ → List ℕ → List ℕ
+filled n [] = []
+filled n (byte ∷ bytes) = shown n byte ++ filled n bytes
+
+-- what tells apart the refusals of one number: the divergence, and for 24 whether the record is the first one, or comes after
+-- one that opens a step
+abbrev pub detailOf : ℕ → ℕ → ℕ → Bool → ℕ
+detailOf number place divergence opened = cond (eqb number 24) (cond (eqb place 0) 0 (cond opened 2 1)) divergence
+
+-- what to do at which step, or which line of the checklist failed and at which record
+unfoldable pub wordsOf : Answer → Bool → List ℕ
+wordsOf (Answer.Ok ending stop records calls) opened = filled stop (ascii (wordsIn table 0 (endingNumber ending)))
+wordsOf (Answer.No number place divergence calls) opened =
+    filled place (ascii (wordsIn table number (detailOf number place divergence opened)))
+
+-- may the run be resumed, and at which step
+abbrev pub goesOn : Ending → Bool
+goesOn Ending.Unstarted = false
+goesOn Ending.Due = true
+goesOn Ending.Done = false
+goesOn Ending.Open = true
+goesOn Ending.Finished = false
+
+unfoldable pub resumeOf : Answer → List ℕ
+resumeOf (Answer.Ok ending stop records calls) = filled stop (ascii (cond (goesOn ending) "yes, step #" "no"))
+resumeOf (Answer.No number place divergence calls) = ascii "no"
