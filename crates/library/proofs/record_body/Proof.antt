@@ -9,11 +9,11 @@ use Rattle.library.proofs.record_body.Tie as tie
 
 pub record-body-spec : {M : Type 1} → statement M
 record-body-spec =
-    tie.close
-    (tie.spec (λ c. search needs) (λ c. search needs) (λ c. search needs) (λ c. search needs) (λ c. search needs)
+    let shown = tie.spec (λ c. search needs) (λ c. search needs) (λ c. search needs) (λ c. search needs) (λ c. search needs)
     (λ c. search needs) (λ c. search needs) (λ c. search needs) (λ c. search needs)
     (λ c. by-arm recordBody (c .before .«record» .given .1) refl) (λ c. by-arm recordBody (c .enum-told .given .1) refl)
     (λ c. by-arm recordBody (c .before .record2 .given .1) refl)
     (λ c. by-arm recordBody (c .before .record3 .given .1) refl) (λ c. by-arm recordBody (c .enum-told2 .given .1) refl)
     (λ c. by-arm recordBody (c .enum-told3 .given .1) refl) (λ c. by-arm recordBody (c .before .record4 .given .1) refl)
-    (λ c. by-arm recordBody (c .before .record5 .given .1) refl) (λ c. by-arm recordBody (c .enum-told4 .given .1) refl))
+    (λ c. by-arm recordBody (c .before .record5 .given .1) refl) (λ c. by-arm recordBody (c .enum-told4 .given .1) refl) in
+    tie.close shown

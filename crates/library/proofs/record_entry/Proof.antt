@@ -8,8 +8,8 @@ use Rattle.library.proofs.record_entry.Tie as tie
 
 pub record-entry-spec : {M : Type 1} → statement M
 record-entry-spec =
-    tie.close
-    (tie.spec (λ c. search needs) (λ c. search needs) (λ c κs. search needs) (λ c. search needs) (λ c. search needs)
+    let shown = tie.spec
+    (λ c. search needs) (λ c. search needs) (λ c κs. search needs) (λ c. search needs) (λ c. search needs)
     (λ c. search needs) (λ c κs. search needs) (λ c. search needs) (λ c κs. search needs) (λ c. search needs)
     (λ c κs. search needs) (λ c. search needs) (λ c κs. search needs) (λ c. search needs) (λ c κs. search needs)
     (λ c. search needs) (λ c κs. search needs) (λ c. search needs) (λ c κs. search needs) (λ c. search needs)
@@ -22,4 +22,5 @@ record-entry-spec =
     (λ c. by-arm recordEntry (c .before .before .record6 .given .1) (c .entry-with4 .ensures))
     (λ c. by-arm recordEntry (c .before .before .record7 .given .1) (c .bodied3 .ensures))
     (λ c. by-arm recordEntry (c .before .before .record8 .given .1) (c .bodied4 .ensures))
-    (λ c. by-arm recordEntry (c .before .before .record9 .given .1) (c .entry-with5 .ensures)))
+    (λ c. by-arm recordEntry (c .before .before .record9 .given .1) (c .entry-with5 .ensures)) in
+    tie.close shown
