@@ -22,8 +22,8 @@ extern "C" {
 /* What reading says of a file.
  * number 0: it is readable. head is the run number of a journal, the capability of a plan (0 BootOnly, 1 Persistent); count is
  * how many records or steps it has; place is 0.
- * Any other number is the refusal: 1 to 9 for a journal, 11 to 19 for a plan. place is the entry for 7, 8, 17 and 18, else 0;
- * head and count are 0. */
+ * Any other number is the refusal: 1 to 9 for a journal (no 5), 11 to 19 for a plan. place is the entry for 7, 8, 17 and 18,
+ * else 0; head and count are 0. */
 typedef struct {
     uint64_t number;
     uint64_t place;
