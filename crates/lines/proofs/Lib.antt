@@ -2,3 +2,4 @@ mod Decimal
 mod Written
 mod Right
 mod Table
+pub mod Laws

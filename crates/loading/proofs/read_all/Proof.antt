@@ -1,12 +1,12 @@
--- `verdict::read_all` meets its contract: what is read so far stays within room. The measure is the room left.
+-- `loading::read_all` meets its contract: what is read so far stays within room. The measure is the room left.
 -- Assumes nothing.
 use borrow.Author.Needs.{needs}
 use Prim.Native.Nat.{_-_, _≤_}
 use mathlib.Core.Path.{_≡_, sym}
 use lib.ListN.{length}
 use lib.Seq.{length-take-le}
-use Rattle.verdict.proofs.read_all.Statement.{statement}
-use Rattle.verdict.proofs.read_all.Tie as tie
+use Rattle.loading.proofs.read_all.Statement.{statement}
+use Rattle.loading.proofs.read_all.Tie as tie
 
 abbrev Inv-loop : tie.InvT-loop
 Inv-loop fd room₀ done₀ room done = (done ≤ length room) × (length room ≡ length room₀)
