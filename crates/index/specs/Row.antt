@@ -1,5 +1,6 @@
 -- The row of a run folder: its name, may it be resumed and at which step, the verdict's line, and plain words.
 use Prim.Native.Nat.{ℕ, _+_, _*_, _-_}
+use mathlib.Core.Path.{_≡_}
 use mathlib.Core.Bool.{Bool, cond, _&&_, _||_}
 use mathlib.Core.List.{List, [], _∷_, _++_}
 use lib.Dec.{eqb, ltb, leb}
@@ -10,7 +11,7 @@ use Rattle.lines.specs.Line.{lineOf}
 use Rattle.lines.specs.Words.{wordsOf, resumeOf}
 use Rattle.resume.specs.Verdict.{verdictRule}
 
--- a byte that a terminal would act on is shown as `?`, so that a row is one line whatever the folder's name is
+-- a control byte is shown as `?`, so that none in a folder's name ends its field or the row
 abbrev pub clean : ℕ → ℕ
 clean byte = cond (ltb byte 32 || eqb byte 127) 63 byte
 
@@ -31,17 +32,22 @@ abbrev pub placeOf : Answer → ℕ
 placeOf (Answer.Ok ending stop records calls) = 0
 placeOf (Answer.No number place divergence calls) = place
 
-abbrev pub words : List ℕ → Answer → List ℕ
-words journal answer = wordsOf answer (opensBefore journal (placeOf answer))
-
 -- the line without its line feed
 abbrev pub printed : Answer → List ℕ
 printed answer = take (length (lineOf answer) - 1) (lineOf answer)
 
--- a tab between two fields, a line feed last
+-- what follows the name: a tab between two fields, a line feed last
+abbrev pub answerFields : Answer → Bool → List ℕ
+answerFields answer opened = ended (resumeOf answer) 9 ++ (ended (printed answer) 9 ++ ended (wordsOf answer opened) 10)
+
 abbrev pub fields : List ℕ → List ℕ → Answer → List ℕ
-fields name journal answer =
-    ended name 9 ++ (ended (resumeOf answer) 9 ++ (ended (printed answer) 9 ++ ended (words journal answer) 10))
+fields name journal answer = ended (cleaned name) 9 ++ answerFields answer (opensBefore journal (placeOf answer))
 
 unfoldable pub rowOf : List ℕ → List ℕ → List ℕ → List ℕ
 rowOf name journal plan = fields name journal (verdictRule journal plan)
+
+-- a row with one field more: what stood before the place is kept, and the next field comes after it
+pub record Fielded (before : List ℕ) (at : ℕ) (text : List ℕ) (last : ℕ) (after : List ℕ) (next : ℕ) : Type 0 where
+  pub front : take next after ≡ take at before ++ ended text last
+  pub place : next ≡ at + length text + 1
+  pub same : length after ≡ length before
