@@ -1,0 +1,17 @@
+-- `index::argument` meets its contract: an argument's length is within the buffer, and so is the buffer's own.
+-- Assumes nothing.
+use borrow.Author.Needs.{needs}
+use mathlib.Core.Path.{ap, sym}
+use native.Mathlib.Omega.{arith}
+use lib.ListN.{length}
+use lib.Seq.{take-length}
+use Rattle.index.proofs.argument.Statement.{statement}
+use Rattle.index.proofs.argument.Tie as tie
+
+returns : tie.Need-returns
+returns c = (omega arith, ap length (sym (take-length (c .before .before .before .before .arg .last .1 .0))))
+
+pub argument-spec : {M : Type 1} → statement M
+argument-spec =
+    tie.close
+    (tie.spec (λ c κs. search needs) (λ c κs. search needs) (λ c. search needs) returns (λ c. search needs) (λ c. search needs))
