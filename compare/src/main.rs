@@ -14,6 +14,7 @@ mod long_scripts;
 mod machine_ending;
 mod machine_vectors;
 mod markers;
+mod numbering;
 mod proved_side;
 mod random;
 mod records;
@@ -40,6 +41,8 @@ compare --script-depth N  the depth of the machines' exhaustive part
 compare --seed N          the seed of the random parts
 compare --vectors FOLDER  only writes FOLDER/stdin and FOLDER/stdout: a fixed sample of
                           calls, and the answers of the Rust source
+compare --numbering       only writes what the Rust source says once every number is spent,
+                          in the lines of crates/numbering/stdout; about a minute
 compare --help            this text
 
 When it is built, HISKURDO_RUST names the folder with the Rust source and HISKURDO_LIB
@@ -123,6 +126,7 @@ const fn only_deep(what: &'static str, run: fn(&Settings, &mut Both)) -> Part {
 enum Task {
     Help,
     Vectors(String),
+    Numbering,
     Compare(Settings),
 }
 
@@ -130,6 +134,7 @@ fn main() -> ExitCode {
     match task(std::env::args().skip(1)) {
         Ok(Task::Help) => println!("{HELP}"),
         Ok(Task::Vectors(folder)) => return write_vectors(&folder),
+        Ok(Task::Numbering) => numbering::say(),
         Ok(Task::Compare(settings)) => compare(&settings),
         Err(problem) => {
             eprintln!("{problem}\n\n{HELP}");
@@ -144,6 +149,7 @@ fn task(mut args: impl Iterator<Item = String>) -> Result<Task, String> {
     while let Some(arg) = args.next() {
         match arg.as_str() {
             "--help" => return Ok(Task::Help),
+            "--numbering" => return Ok(Task::Numbering),
             "--vectors" => {
                 let folder = args.next().ok_or("--vectors needs a folder")?;
                 return Ok(Task::Vectors(folder));

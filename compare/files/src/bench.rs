@@ -1,36 +1,164 @@
 //! How long the proved code and the plain Rust take, side by side in one run.
+//!
+//! Both sides are asked through a call that is not inlined where it is timed, with the same
+//! arguments, and give the same numbers; each answer is consumed.
 
+use std::fs;
 use std::hint::black_box;
+use std::thread;
 use std::time::Instant;
 
-use waymaker_core::{ActivityKind, ClockCapability, EffectRequest};
+use waymaker_core::{ActivityKind, ClockCapability, EffectRequest, TimerSpec};
 
-use crate::numbers;
+use crate::numbers::{self, EntryNumbers};
 use crate::pairs::{BODIES, Item, journal_of};
 use crate::proved;
-use crate::reader::{ENTRY, Entry, Format, HEADER, Step, read_journal, read_plan};
+use crate::reader::{ENTRY, Entry, Format, HEADER, Step, read_journal};
 use crate::resume::{handover, verdict};
 use crate::writing;
 
-/// How often each side is timed, by turns; medians are told.
+/// How often the two sides are timed, by turns; medians are told.
 const ROUNDS: usize = 501;
-/// Each time it is called until about so many nanoseconds have passed.
+/// Each time a side is called until about so many nanoseconds have passed.
 const NANOSECONDS: f64 = 200_000.0;
+/// The proved code takes at most so many times as long as the Rust,
+const MOST_RATIO: f64 = 1.0;
+/// and eight times the records at most so many times as long.
+const MOST_GROWTH: f64 = 8.8;
 
+/// One thing that is timed: what it is called, and how each side does it.
+struct Case<'a> {
+    what: String,
+    /// Whether the ratio has a goal.
+    owed: bool,
+    rust: Box<dyn Fn() + 'a>,
+    rattle: Box<dyn Fn() + 'a>,
+}
+
+impl<'a> Case<'a> {
+    /// The two sides must give the same answer.
+    fn new<T: PartialEq + std::fmt::Debug>(
+        what: String,
+        rust: impl Fn() -> T + 'a,
+        rattle: impl Fn() -> T + 'a,
+    ) -> Case<'a> {
+        if proved::HAS_VERDICT {
+            assert_eq!(rust(), rattle(), "{what}");
+        }
+        Case {
+            what,
+            owed: true,
+            rust: Box::new(move || drop(black_box(rust()))),
+            rattle: Box::new(move || drop(black_box(rattle()))),
+        }
+    }
+}
+
+/// Times every case and prints the table, with the goals and whether they are met.
 pub fn run() {
-    println!("Nanoseconds a call, the median of {ROUNDS} rounds.");
-    let full = Files::new(1_024, 16, 8);
-    assert_eq!([full.journal.len(), full.plan.len()], [32_768; 2]);
-    reading(&full);
-    resuming("1,024 records, 32,768 bytes each", &full);
-    let small = Files::new(128, 0, 0);
-    let large = Files::new(1_024, 0, 0);
-    growth(&small, &large);
+    println!("{}; medians of {ROUNDS} rounds, nanoseconds", machine());
+    if !proved::HAS_VERDICT {
+        println!("the proved verdict is not there: nothing is timed");
+        return;
+    }
+    let all = AllFiles::new();
+    println!("| What | Rust | Rattle | Ratio | Goal |");
+    println!("|---|---|---|---|---|");
+    let mut unmet = 0;
+    for case in cases(&all) {
+        let (rust, rattle, ratio) = by_turns(&case.rust, &case.rattle);
+        let goal = match case.owed {
+            true => told(ratio, MOST_RATIO, &mut unmet),
+            false => "none".to_string(),
+        };
+        println!(
+            "| {} | {rust:.0} | {rattle:.0} | {ratio:.2} | {goal} |",
+            case.what
+        );
+    }
+    println!();
+    println!("| Verdict, growth from 128 to 1,024 records | 128 | 1,024 | Times | Goal |");
+    println!("|---|---|---|---|---|");
+    let [small, large] = [&all.small, &all.large].map(verdict_case);
+    let (few, many, times) = by_turns(&small.rust, &large.rust);
+    println!("| Rust | {few:.0} | {many:.0} | {times:.2} | |");
+    let (few, many, times) = by_turns(&small.rattle, &large.rattle);
+    let goal = told(times, MOST_GROWTH, &mut unmet);
+    println!("| Rattle | {few:.0} | {many:.0} | {times:.2} | {goal} |");
+    println!();
+    println!("goals not met: {unmet}");
+}
+
+/// Makes so many calls of one side of a case, for a counter of instructions.
+pub fn calls(side: &str, part: &str, calls: u64) -> Result<(), String> {
+    let all = AllFiles::new();
+    let case = cases(&all)
+        .into_iter()
+        .find(|case| case.what.starts_with(part))
+        .ok_or_else(|| format!("no case begins with {part}"))?;
+    let call = match side {
+        "rust" => case.rust,
+        "rattle" => case.rattle,
+        _ => return Err("the sides are rust and rattle".to_string()),
+    };
+    (0..calls).for_each(|_| call());
+    Ok(())
+}
+
+fn told(found: f64, most: f64, unmet: &mut u64) -> String {
+    if found <= most {
+        format!("at most {most}: met")
+    } else {
+        *unmet += 1;
+        format!("at most {most}: NOT MET")
+    }
+}
+
+/// The processor and how many cores there are, where the system says it.
+fn machine() -> String {
+    let model = fs::read_to_string("/proc/cpuinfo")
+        .ok()
+        .and_then(|text| {
+            let line = text.lines().find(|line| line.starts_with("model name"))?;
+            Some(line.split(':').nth(1)?.trim().to_string())
+        })
+        .unwrap_or_else(|| "unknown processor".to_string());
+    let cores = thread::available_parallelism().map_or(0, |cores| cores.get());
+    format!("{model}, {cores} cores")
+}
+
+/// All files that are timed.
+struct AllFiles {
+    /// 32,768 bytes each, all effects.
+    full: Files,
+    /// 1,024 records, all timers.
+    timers: Files,
+    small: Files,
+    large: Files,
+}
+
+impl AllFiles {
+    fn new() -> AllFiles {
+        let full = Files::new(
+            1_024,
+            |number| effect(number, if number < 1_022 { 8 } else { 0 }),
+            16,
+        );
+        assert_eq!([full.journal.len(), full.plan.len()], [32_768; 2]);
+        AllFiles {
+            full,
+            timers: Files::new(1_024, timer, 0),
+            small: Files::new(128, |number| effect(number, 0), 0),
+            large: Files::new(1_024, |number| effect(number, 0), 0),
+        }
+    }
 }
 
 /// A journal of so many records whose last step is open, and its plan, which has as many
 /// steps as the journal has records.
 struct Files {
+    what: &'static str,
+    records: usize,
     journal: Vec<u8>,
     plan: Vec<u8>,
     /// The stop.
@@ -38,21 +166,21 @@ struct Files {
 }
 
 impl Files {
-    /// Outcomes and inputs have these lengths; the last two inputs are empty.
-    fn new(records: usize, outcome: usize, input: usize) -> Files {
+    /// Outcomes have this length.
+    fn new(records: usize, step: fn(usize) -> Step<'static>, outcome: usize) -> Files {
         let stop = (records - 2) / 2;
-        let steps: Vec<Step> = (0..records)
-            .map(|number| match records - number {
-                1 | 2 => effect(number, 0),
-                _ => effect(number, input),
-            })
-            .collect();
+        let steps: Vec<Step> = (0..records).map(step).collect();
         let mut items = vec![started()];
         for (number, step) in steps[..stop].iter().enumerate() {
-            items.extend([opener(step, number), completed(number, outcome)]);
+            items.extend([opener(step, number), closer(step, number, outcome)]);
         }
         items.push(opener(&steps[stop], stop));
         Files {
+            what: match steps[0] {
+                Step::Effect { .. } => "effects",
+                Step::Timer(_) => "timers",
+            },
+            records,
             journal: journal_of(7, &items).bytes(),
             plan: writing::plan(ClockCapability::Persistent, &steps).bytes(),
             stop: stop as u64,
@@ -71,6 +199,15 @@ fn effect(number: usize, input: usize) -> Step<'static> {
     }
 }
 
+fn timer(number: usize) -> Step<'static> {
+    Step::Timer(match number % 2 {
+        0 => TimerSpec::AfterBoot { ticks: 1_000 },
+        _ => TimerSpec::AtPersistentTime {
+            instant: number as u64,
+        },
+    })
+}
+
 fn started() -> Item {
     let entry = Entry {
         kind: 1,
@@ -86,9 +223,12 @@ fn opener(step: &Step<'_>, number: usize) -> Item {
     (entry, &[])
 }
 
-fn completed(number: usize, outcome: usize) -> Item {
+fn closer(step: &Step<'_>, number: usize, outcome: usize) -> Item {
     let entry = Entry {
-        kind: 3,
+        kind: match step {
+            Step::Effect { .. } => 3,
+            Step::Timer(_) => 6,
+        },
         s: number as u32,
         m: outcome as u64,
         ..Entry::default()
@@ -96,44 +236,80 @@ fn completed(number: usize, outcome: usize) -> Item {
     (entry, &BODIES[number..number + outcome])
 }
 
-fn reading(files: &Files) {
-    let (journal, plan) = (&files.journal[..], &files.plan[..]);
-    side_by_side(
-        "read a journal of 1,024 records, 32,768 bytes",
-        || read_journal(black_box(journal)).is_ok(),
-        || proved::read(Format::Journal, black_box(journal)),
-        proved::HAS_READERS,
-    );
-    side_by_side(
-        "read a plan of 1,024 steps, 32,768 bytes",
-        || read_plan(black_box(plan)).is_ok(),
-        || proved::read(Format::Plan, black_box(plan)),
-        proved::HAS_READERS,
-    );
-    side_by_side(
-        "read the journal and walk its records",
-        || walk_rust(black_box(journal)),
-        || walk_proved(black_box(journal)),
-        proved::HAS_READERS,
-    );
-}
-
-fn walk_rust(journal: &[u8]) -> u64 {
-    let records = read_journal(journal).map(|journal| journal.records());
-    let mut kinds = 0;
-    for record in records.into_iter().flatten() {
-        kinds += u64::from(black_box(record).kind().0);
+fn cases(all: &AllFiles) -> Vec<Case<'_>> {
+    let full = &all.full;
+    let mut cases = vec![
+        reading_case(Format::Journal, full),
+        reading_case(Format::Plan, full),
+        reading_case(Format::Journal, &all.timers),
+        reading_case(Format::Plan, &all.timers),
+        walking_case(Format::Journal, full),
+        walking_case(Format::Plan, full),
+        verdict_case(full),
+        verdict_case(&all.timers),
+    ];
+    for boundary in [0, full.stop - 1, full.stop, full.stop + 1] {
+        cases.push(handover_case(full, boundary));
     }
-    kinds
+    cases.push(Case {
+        owed: false,
+        ..iterating_case(full)
+    });
+    cases
 }
 
-/// Each record crosses the boundary of the library by a call of its own.
-fn walk_proved(journal: &[u8]) -> u64 {
-    let count = proved::read(Format::Journal, journal).map_or(0, |read| read.count);
+fn reading_case(format: Format, files: &Files) -> Case<'_> {
+    let (name, file) = named(format, files);
+    Case::new(
+        format!("read a {name}, 1,024 entries, {}", files.what),
+        move || Some(numbers::read(format, black_box(file))),
+        move || proved::read(format, black_box(file)),
+    )
+}
+
+fn walking_case(format: Format, files: &Files) -> Case<'_> {
+    let (name, file) = named(format, files);
+    let rust: fn(&[u8], u64, u64) -> EntryNumbers = match format {
+        Format::Journal => rust_next_record,
+        Format::Plan => rust_next_step,
+    };
+    Case::new(
+        format!("walk a {name}, a call for each of its 1,024 entries"),
+        move || walk(black_box(file), |entry, body| Some(rust(file, entry, body))),
+        move || {
+            walk(black_box(file), |entry, body| {
+                proved::next(format, file, entry, body)
+            })
+        },
+    )
+}
+
+// The plain Rust of the library's two exports, called as they are: through a symbol.
+
+#[inline(never)]
+fn rust_next_record(file: &[u8], entry: u64, body: u64) -> EntryNumbers {
+    numbers::next(Format::Journal, file, entry, body)
+}
+
+#[inline(never)]
+fn rust_next_step(file: &[u8], entry: u64, body: u64) -> EntryNumbers {
+    numbers::next(Format::Plan, file, entry, body)
+}
+
+fn named(format: Format, files: &Files) -> (&'static str, &[u8]) {
+    match format {
+        Format::Journal => ("journal", &files.journal[..]),
+        Format::Plan => ("plan", &files.plan[..]),
+    }
+}
+
+/// From the first entry to the last, each by a call of its own: the sum of the kinds.
+fn walk(file: &[u8], next: impl Fn(u64, u64) -> Option<EntryNumbers>) -> u64 {
+    let count = u64::from(u16::from_le_bytes([file[2], file[3]]));
     let (mut entry, mut body) = (0, HEADER as u64 + ENTRY as u64 * count);
     let mut kinds = 0;
     while entry < count {
-        let Some(found) = proved::next(Format::Journal, journal, entry, body) else {
+        let Some(found) = next(entry, body) else {
             break;
         };
         kinds += black_box(found).kind;
@@ -142,59 +318,66 @@ fn walk_proved(journal: &[u8]) -> u64 {
     kinds
 }
 
-fn resuming(what: &str, files: &Files) {
+/// The Rust's own way to walk: an iterator, which is inlined. A call of a library is not.
+fn iterating_case(files: &Files) -> Case<'_> {
+    let journal = &files.journal[..];
+    Case::new(
+        "read the journal and walk it, the Rust by its iterator".to_string(),
+        || iterate(black_box(journal)),
+        || {
+            black_box(proved::read(Format::Journal, black_box(journal)));
+            walk(journal, |entry, body| {
+                proved::next(Format::Journal, journal, entry, body)
+            })
+        },
+    )
+}
+
+fn iterate(journal: &[u8]) -> u64 {
+    let records = read_journal(journal).map(|journal| journal.records());
+    let mut kinds = 0;
+    for record in records.into_iter().flatten() {
+        kinds += u64::from(black_box(record).kind().0);
+    }
+    kinds
+}
+
+fn verdict_case(files: &Files) -> Case<'_> {
     let (journal, plan) = (&files.journal[..], &files.plan[..]);
-    side_by_side(
-        &format!("verdict, {what}"),
-        || numbers::verdict(&verdict(black_box(journal), black_box(plan))),
+    Case::new(
+        format!("verdict, {} records, {}", files.records, files.what),
+        || {
+            Some(numbers::verdict(&verdict(
+                black_box(journal),
+                black_box(plan),
+            )))
+        },
         || proved::verdict(black_box(journal), black_box(plan)),
-        proved::HAS_VERDICT,
-    );
-    for boundary in [0, files.stop - 1, files.stop, files.stop + 1] {
-        side_by_side(
-            &format!("handover of boundary {boundary}, {what}"),
-            || {
-                let handed = handover(black_box(journal), black_box(plan), black_box(boundary));
-                numbers::handover(journal, plan, &handed)
-            },
-            || proved::handover(black_box(journal), black_box(plan), black_box(boundary)),
-            proved::HAS_VERDICT,
-        );
-    }
+    )
 }
 
-/// The verdict on eight times the records, each side with itself by turns.
-fn growth(small: &Files, large: &Files) {
-    let rust = |files: &Files| {
-        numbers::verdict(&verdict(black_box(&files.journal), black_box(&files.plan)))
-    };
-    let proved = |files: &Files| proved::verdict(black_box(&files.journal), black_box(&files.plan));
-    let (few, many, times) = by_turns(|| rust(small), || rust(large));
-    println!("verdict, 128 and 1,024 records, Rust: {few:.0}, {many:.0}, {times:.2} times");
-    if proved::HAS_VERDICT {
-        let (few, many, times) = by_turns(|| proved(small), || proved(large));
-        println!("verdict, 128 and 1,024 records, proved: {few:.0}, {many:.0}, {times:.2} times");
-    }
-}
-
-/// Times the plain Rust and the proved code, where it is there, and tells their ratio.
-fn side_by_side<A, B>(what: &str, rust: impl Fn() -> A, proved: impl Fn() -> B, there: bool) {
-    if there {
-        let (rust, proved, ratio) = by_turns(rust, proved);
-        println!("{what}: Rust {rust:.0}, proved {proved:.0}, ratio {ratio:.2}");
-    } else {
-        let (rust, _, _) = by_turns(&rust, &rust);
-        println!("{what}: Rust {rust:.0}, proved not there");
-    }
+fn handover_case(files: &Files, boundary: u64) -> Case<'_> {
+    let (journal, plan) = (&files.journal[..], &files.plan[..]);
+    Case::new(
+        format!(
+            "handover of boundary {boundary}, the stop is {}",
+            files.stop
+        ),
+        move || {
+            let handed = handover(black_box(journal), black_box(plan), black_box(boundary));
+            Some(numbers::handover(journal, plan, &handed))
+        },
+        move || proved::handover(black_box(journal), black_box(plan), black_box(boundary)),
+    )
 }
 
 /// Times two calls by turns: the median of each, and of the second's ratio to the first in
 /// a turn.
-fn by_turns<A, B>(first: impl Fn() -> A, second: impl Fn() -> B) -> (f64, f64, f64) {
-    let (first_calls, second_calls) = (calls_for(&first), calls_for(&second));
+fn by_turns(first: &dyn Fn(), second: &dyn Fn()) -> (f64, f64, f64) {
+    let (first_calls, second_calls) = (calls_for(first), calls_for(second));
     let (mut firsts, mut seconds, mut ratios) = (Vec::new(), Vec::new(), Vec::new());
     for _ in 0..ROUNDS {
-        let (one, other) = (time(&first, first_calls), time(&second, second_calls));
+        let (one, other) = (time(first, first_calls), time(second, second_calls));
         firsts.push(one);
         seconds.push(other);
         ratios.push(other / one);
@@ -203,17 +386,15 @@ fn by_turns<A, B>(first: impl Fn() -> A, second: impl Fn() -> B) -> (f64, f64, f
 }
 
 /// How many calls take the wanted time.
-fn calls_for<T>(call: &impl Fn() -> T) -> u64 {
+fn calls_for(call: &dyn Fn()) -> u64 {
     time(call, 10);
     (NANOSECONDS / time(call, 10).max(1.0)) as u64 + 1
 }
 
 /// Nanoseconds a call.
-fn time<T>(call: &impl Fn() -> T, calls: u64) -> f64 {
+fn time(call: &dyn Fn(), calls: u64) -> f64 {
     let start = Instant::now();
-    for _ in 0..calls {
-        black_box(call());
-    }
+    (0..calls).for_each(|_| call());
     start.elapsed().as_nanos() as f64 / calls as f64
 }
 

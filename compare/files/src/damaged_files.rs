@@ -3,6 +3,7 @@
 use crate::Settings;
 use crate::files::{Compared, FORMATS};
 use crate::made_files::set;
+use crate::numbers;
 use crate::proved;
 use crate::random::Random;
 use crate::reader::{ENTRY, Format, HEADER, MOST_BYTES};
@@ -111,7 +112,7 @@ fn random_bytes(compared: &mut Compared, random: &mut Random, files: u64) {
     }
 }
 
-/// Walks from any place over any bytes: whatever is found lies within the file.
+/// One step of a walk from any place over any bytes.
 fn walks(compared: &mut Compared, random: &mut Random, walks: u64) {
     for _ in 0..walks {
         let format = random.pick(&FORMATS);
@@ -122,18 +123,12 @@ fn walks(compared: &mut Compared, random: &mut Random, walks: u64) {
         let length = file.len() as u64;
         let (entry, body) = (walk_value(random, 7), walk_value(random, length + 2));
         compared.walks += 1;
-        let Some(found) = proved::next(format, &file, entry, body) else {
-            continue;
-        };
-        let nothing = found.kind == 0;
-        let within = samples::kinds(format).contains(&(found.kind as u8))
-            && found.next_entry == entry.wrapping_add(1)
-            && found.next_body == body.wrapping_add(found.len)
-            && found.next_body <= length
-            && (found.start == body || (found.start, found.len) == (0, 0));
-        if !nothing && !within {
+        let rust = numbers::next(format, &file, entry, body);
+        if let Some(proved) = proved::next(format, &file, entry, body)
+            && proved != rust
+        {
             let what = format!("a walk from entry {entry}, body {body}");
-            differ_on_file(format, &file, &what, &"nothing, or within the file", &found);
+            differ_on_file(format, &file, &what, &rust, &proved);
         }
     }
 }

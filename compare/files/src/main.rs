@@ -42,6 +42,9 @@ compare-files --seed N     the seed of what is random
 compare-files --store DIR  only writes DIR/damaged and DIR/verdicts, stdin and stdout: fixed
                            lists of files and of pairs, and the answers of the plain Rust
 compare-files --bench      only times both sides on full files, and their growth
+compare-files --calls SIDE CASE N
+                           only makes N calls of one side (rust, rattle) of the timed case
+                           that begins so, for a counter of instructions
 compare-files --help       this text
 
 When it is built, HISKURDO_RUST names the folder with the Rust source and HISKURDO_LIB the
@@ -105,6 +108,7 @@ const PARTS: [Part; 3] = [
 enum Task {
     Help,
     Bench,
+    Calls([String; 2], u64),
     Store(String),
     Compare(Settings, Option<String>),
 }
@@ -113,6 +117,7 @@ fn main() -> ExitCode {
     match task(std::env::args().skip(1)) {
         Ok(Task::Help) => println!("{HELP}"),
         Ok(Task::Bench) => bench::run(),
+        Ok(Task::Calls([side, case], calls)) => return made(bench::calls(&side, &case, calls)),
         Ok(Task::Store(folder)) => return write_lists(&folder),
         Ok(Task::Compare(settings, part)) => compare(&settings, part.as_deref()),
         Err(problem) => {
@@ -130,6 +135,11 @@ fn task(mut args: impl Iterator<Item = String>) -> Result<Task, String> {
         match arg.as_str() {
             "--help" => return Ok(Task::Help),
             "--bench" => return Ok(Task::Bench),
+            "--calls" => {
+                let side = args.next().ok_or("--calls needs a side")?;
+                let case = args.next().ok_or("--calls needs a case")?;
+                return Ok(Task::Calls([side, case], number(args.next(), "--calls")?));
+            }
             "--store" => {
                 let folder = args.next().ok_or("--store needs a folder")?;
                 return Ok(Task::Store(folder));
@@ -172,10 +182,14 @@ fn compare(settings: &Settings, only: Option<&str>) {
 }
 
 fn write_lists(folder: &str) -> ExitCode {
-    match store::write(folder) {
+    made(store::write(folder).map_err(|error| format!("{folder}: {error}")))
+}
+
+fn made(done: Result<(), String>) -> ExitCode {
+    match done {
         Ok(()) => ExitCode::SUCCESS,
-        Err(error) => {
-            eprintln!("{folder}: {error}");
+        Err(problem) => {
+            eprintln!("{problem}");
             ExitCode::FAILURE
         }
     }

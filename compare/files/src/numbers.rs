@@ -130,6 +130,69 @@ impl Walked<'_> {
     }
 }
 
+/// The entry at which a walk stands, from any place over any bytes.
+pub fn next(format: Format, file: &[u8], entry: u64, body: u64) -> EntryNumbers {
+    found(format, file, entry, body).unwrap_or(EntryNumbers {
+        next_entry: entry,
+        next_body: body,
+        ..EntryNumbers::default()
+    })
+}
+
+fn found(format: Format, file: &[u8], entry: u64, body: u64) -> Option<EntryNumbers> {
+    if entry >= reader::MOST_ENTRIES as u64 {
+        return None;
+    }
+    let at = reader::HEADER + reader::ENTRY * entry as usize;
+    let read = Entry::read(file.get(at..)?.first_chunk()?);
+    let (bodied, length) = body_length(format, &read)?;
+    let end = body
+        .checked_add(length)
+        .filter(|end| *end <= file.len() as u64)?;
+    let [clock, a, s, d, m] = kept(format, &read);
+    let (start, len) = if bodied { (body, length) } else { (0, 0) };
+    Some(EntryNumbers {
+        kind: read.kind.into(),
+        clock,
+        a,
+        s,
+        d,
+        m,
+        start,
+        len,
+        next_entry: entry + 1,
+        next_body: end,
+    })
+}
+
+/// Clock, A, S, D and M as a record or a step says them: cut to their widths, and 0 where the
+/// kind has none.
+fn kept(format: Format, entry: &Entry) -> [u64; 5] {
+    let (clock, a, s) = (entry.clock.into(), entry.a.into(), entry.s.into());
+    let (low16, low32) = (entry.d as u16 as u64, entry.m as u32 as u64);
+    match (format, entry.kind) {
+        (Format::Journal, 1) => [0, a, 0, low16, entry.m],
+        (Format::Journal, 2) => [0, a, s, low16, low32],
+        (Format::Journal, 3 | 4) => [0, 0, s, 0, entry.m],
+        (Format::Journal, 5) => [clock, 0, s, entry.d, entry.m],
+        (Format::Journal, 6) => [0, 0, s, 0, 0],
+        (Format::Journal, 7 | 8) => [0, 0, 0, 0, entry.m],
+        (Format::Journal, _) => [0, a, s, low16, 0],
+        (Format::Plan, 2) => [0, a, 0, low16, low32],
+        (Format::Plan, _) => [if clock == 1 { 1 } else { 2 }, 0, 0, entry.d, 0],
+    }
+}
+
+/// Whether an entry has a body, and its length; nothing for a kind that the format has not.
+fn body_length(format: Format, entry: &Entry) -> Option<(bool, u64)> {
+    match (format, entry.kind) {
+        (Format::Journal, 1 | 3 | 4 | 7 | 8) => Some((true, entry.m)),
+        (Format::Journal, 2 | 5 | 6 | 9) | (Format::Plan, 5) => Some((false, 0)),
+        (Format::Plan, 2) => Some((true, entry.d)),
+        _ => None,
+    }
+}
+
 /// Where a part starts in its file, and its length.
 fn part(file: &[u8], part: &[u8]) -> [u64; 2] {
     let start = part.as_ptr().addr() - file.as_ptr().addr();

@@ -8,7 +8,7 @@ ghost use mathlib.Core.Path.{_≡_};
 ghost use Rattle.files.specs.Reading.{journalRule, planRule};
 ghost use Rattle.files.specs.Contents.{nextRecord, nextStep};
 ghost use Rattle.files.specs.Encoding.{entryWith, recordEntry, stepEntry};
-ghost use Rattle.library.specs.Numbers.{capabilityNumber, refusedNumbers, readableNumbers, journalNumbers, planNumbers, recordBody, stepBody, entryNumbers, nothing, recordNumbers, stepNumbers};
+ghost use Rattle.library.specs.Numbers.{capabilityNumber, refusedNumbers, readableNumbers, journalNumbers, planNumbers, noBody, recordBody, stepBody, entryNumbers, nothing, recordNumbers, stepNumbers};
 use clocks::ClockCapability;
 use clocks::TimerSpec;
 use files::Entry;
@@ -111,63 +111,6 @@ fn entry_with(kind: u8, clock: u8, a: u16, s: u32, d: u64, m: u64) -> Entry
     }
 }
 
-// The entry of a record that is its number and its body.
-fn bodied(kind: u8, s: u32, body: Body) -> Entry
-    ensures { λ r. ⌜ r ≡ entryWith kind 0 0 s 0 (body .len) ⌝ }
-{
-    entry_with(kind, 0, 0, s, 0, body.len as u64)
-}
-
-// The entry that says this record.
-fn record_entry(record: RecordRef) -> Entry
-    ensures { λ r. ⌜ r ≡ recordEntry «record» ⌝ }
-{
-    match record {
-        RecordRef::RunStarted {
-            workflow_kind: a,
-            workflow_version: version,
-            input,
-        } => { entry_with(1, 0, a, 0, version as u64, input.len as u64) }
-        RecordRef::EffectScheduled {
-            seq,
-            kind,
-            input_len,
-            input_crc,
-        } => { entry_with(2, 0, kind.0, seq.0, input_len as u64, input_crc as u64) }
-        RecordRef::EffectCompleted { seq, result } => bodied(3, seq.0, result),
-        RecordRef::EffectFailed { seq, error } => bodied(4, seq.0, error),
-        RecordRef::TimerScheduled {
-            seq,
-            clock_kind,
-            deadline,
-            armed_at,
-        } => { entry_with(5, clock_kind.0, 0, seq.0, deadline, armed_at) }
-        RecordRef::TimerFired { seq } => entry_with(6, 0, 0, seq.0, 0, 0),
-        RecordRef::RunCompleted { result } => bodied(7, 0, result),
-        RecordRef::RunFailed { error } => bodied(8, 0, error),
-        RecordRef::VersionMarker { seq, gate, version } => {
-            entry_with(9, 0, gate.0, seq.0, version as u64, 0)
-        }
-    }
-}
-
-// The body that a record has, or the empty one at 0.
-fn record_body(record: RecordRef) -> Body
-    ensures { λ r. ⌜ r ≡ recordBody «record» ⌝ }
-{
-    match record {
-        RecordRef::RunStarted { input, .. } => input,
-        RecordRef::EffectScheduled { .. } => Body { start: 0, len: 0 },
-        RecordRef::EffectCompleted { result, .. } => result,
-        RecordRef::EffectFailed { error, .. } => error,
-        RecordRef::TimerScheduled { .. } => Body { start: 0, len: 0 },
-        RecordRef::TimerFired { .. } => Body { start: 0, len: 0 },
-        RecordRef::RunCompleted { result } => result,
-        RecordRef::RunFailed { error } => error,
-        RecordRef::VersionMarker { .. } => Body { start: 0, len: 0 },
-    }
-}
-
 fn entry_numbers(e: Entry, body: Body, next: Walk) -> EntryNumbers
     ensures { λ r. ⌜ r ≡ entryNumbers e body next ⌝ }
 {
@@ -182,6 +125,72 @@ fn entry_numbers(e: Entry, body: Body, next: Walk) -> EntryNumbers
         len: body.len as u64,
         next_entry: next.entry as u64,
         next_body: next.body as u64,
+    }
+}
+
+// What has no body.
+fn bare_numbers(e: Entry, next: Walk) -> EntryNumbers
+    ensures { λ r. ⌜ r ≡ entryNumbers e noBody next ⌝ }
+{
+    entry_numbers(e, Body { start: 0, len: 0 }, next)
+}
+
+// A record that is its number and its body.
+fn bodied_numbers(kind: u8, s: u32, body: Body, next: Walk) -> EntryNumbers
+    ensures { λ r. ⌜ r ≡ entryNumbers (entryWith kind 0 0 s 0 (body .len)) body next ⌝ }
+{
+    entry_numbers(entry_with(kind, 0, 0, s, 0, body.len as u64), body, next)
+}
+
+// The start of a run.
+fn started_numbers(a: u16, version: u16, input: Body, next: Walk) -> EntryNumbers
+    ensures { λ r. ⌜ r ≡ entryNumbers (entryWith 1 0 a 0 version (input .len)) input next ⌝ }
+{
+    let e = entry_with(1, 0, a, 0, version as u64, input.len as u64);
+    entry_numbers(e, input, next)
+}
+
+fn schedule_entry(s: u32, a: u16, input_len: u16, input_crc: u32) -> Entry
+    ensures { λ r. ⌜ r ≡ entryWith 2 0 a s «input_len» «input_crc» ⌝ }
+{
+    entry_with(2, 0, a, s, input_len as u64, input_crc as u64)
+}
+
+// The entry that says this record, with the body that it has, or the empty one at 0.
+fn record_numbers(record: RecordRef, next: Walk) -> EntryNumbers
+    ensures { λ r. ⌜ r ≡ entryNumbers (recordEntry «record») (recordBody «record») next ⌝ }
+{
+    match record {
+        RecordRef::RunStarted {
+            workflow_kind: a,
+            workflow_version: version,
+            input,
+        } => { started_numbers(a, version, input, next) }
+        RecordRef::EffectScheduled {
+            seq,
+            kind,
+            input_len,
+            input_crc,
+        } => { bare_numbers(schedule_entry(seq.0, kind.0, input_len, input_crc), next) }
+        RecordRef::EffectCompleted { seq, result } => bodied_numbers(3, seq.0, result, next),
+        RecordRef::EffectFailed { seq, error } => bodied_numbers(4, seq.0, error, next),
+        RecordRef::TimerScheduled {
+            seq,
+            clock_kind,
+            deadline,
+            armed_at,
+        } => {
+            bare_numbers(
+                entry_with(5, clock_kind.0, 0, seq.0, deadline, armed_at),
+                next,
+            )
+        }
+        RecordRef::TimerFired { seq } => bare_numbers(entry_with(6, 0, 0, seq.0, 0, 0), next),
+        RecordRef::RunCompleted { result } => bodied_numbers(7, 0, result, next),
+        RecordRef::RunFailed { error } => bodied_numbers(8, 0, error, next),
+        RecordRef::VersionMarker { seq, gate, version } => {
+            bare_numbers(entry_with(9, 0, gate.0, seq.0, version as u64, 0), next)
+        }
     }
 }
 
@@ -204,9 +213,7 @@ pub extern "C" fn hiskurdo_next_record(file: &[u8], entry: u64, body: u64) -> En
         body: body as usize,
     };
     match walking::next_record(file, walk) {
-        RecordOption::Some { record, next } => {
-            entry_numbers(record_entry(record), record_body(record), next)
-        }
+        RecordOption::Some { record, next } => { record_numbers(record, next) }
         RecordOption::None => nothing_here(walk),
     }
 }

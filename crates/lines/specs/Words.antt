@@ -32,7 +32,7 @@ table =
     row 0 1 "Start step #" ∷
     row 0 2 "Nothing left to do: every step is done" ∷
     row 0 3 "Deliver step # again: it was begun and has no outcome" ∷
-    row 0 4 "The run ended after # whole steps" ∷
+    row 0 4 "The run ended; steps done: #" ∷
     row 1 0 "Journal: missing, unreadable or under 16 bytes" ∷
     row 2 0 "Journal: over 32,768 bytes" ∷
     row 3 0 "Journal: not a journal file" ∷
@@ -59,7 +59,7 @@ table =
     row 24 0 "First record opens the run: record # does not (a file from another stage)" ∷
     row 24 1 "Steps carry consecutive numbers: record # cannot follow the one before it (lost or doubled)" ∷
     row 24 2 "An open step is never shown as done: record # is not the outcome of the step opened before it" ∷
-    row 25 0 "Recorded timers fit this board's clocks: the timer due after # records does not" ∷
+    row 25 0 "Recorded timers fit this board's clocks: the timer due at record # does not" ∷
     row 31 0 "Each step matches the plan: record # opens a step beyond the plan's last" ∷ []
 
 abbrev pub otherWords : String

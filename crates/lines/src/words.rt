@@ -117,7 +117,7 @@ fn said(number: u64, detail: u64, n: u64) -> Line
         00 1 Start step #\n\
         00 2 Nothing left to do: every step is done\n\
         00 3 Deliver step # again: it was begun and has no outcome\n\
-        00 4 The run ended after # whole steps\n\
+        00 4 The run ended; steps done: #\n\
         01 0 Journal: missing, unreadable or under 16 bytes\n\
         02 0 Journal: over 32,768 bytes\n\
         03 0 Journal: not a journal file\n\
@@ -144,7 +144,7 @@ fn said(number: u64, detail: u64, n: u64) -> Line
         24 0 First record opens the run: record # does not (a file from another stage)\n\
         24 1 Steps carry consecutive numbers: record # cannot follow the one before it (lost or doubled)\n\
         24 2 An open step is never shown as done: record # is not the outcome of the step opened before it\n\
-        25 0 Recorded timers fit this board's clocks: the timer due after # records does not\n\
+        25 0 Recorded timers fit this board's clocks: the timer due at record # does not\n\
         31 0 Each step matches the plan: record # opens a step beyond the plan's last\n\
         ",
         number,

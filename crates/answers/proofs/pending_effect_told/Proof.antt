@@ -8,8 +8,8 @@ use Rattle.answers.proofs.pending_effect_told.Tie as tie
 
 pub pending-effect-told-spec : {M : Type 1} → statement M
 pending-effect-told-spec =
-    tie.close
-    (tie.spec
+    let shown = tie.spec
     (λ c. search needs) (λ c κs. search needs) (λ c. search needs) (λ c κs. search needs)
     (λ c. by-arm pendingEffectOptionTold (c .before .before .pending .given .1) (c .open-effect .ensures))
-    (λ c. by-arm pendingEffectOptionTold (c .before .enum-told .given .1) (c .new .ensures)))
+    (λ c. by-arm pendingEffectOptionTold (c .before .enum-told .given .1) (c .new .ensures)) in
+    tie.close shown

@@ -8,8 +8,8 @@ use Rattle.answers.proofs.pending_timer_told.Tie as tie
 
 pub pending-timer-told-spec : {M : Type 1} → statement M
 pending-timer-told-spec =
-    tie.close
-    (tie.spec
+    let shown = tie.spec
     (λ c. search needs) (λ c κs. search needs) (λ c. search needs) (λ c κs. search needs)
     (λ c. by-arm pendingTimerOptionTold (c .before .before .pending .given .1) (c .open-timer .ensures))
-    (λ c. by-arm pendingTimerOptionTold (c .before .enum-told .given .1) (c .new .ensures)))
+    (λ c. by-arm pendingTimerOptionTold (c .before .enum-told .given .1) (c .new .ensures)) in
+    tie.close shown

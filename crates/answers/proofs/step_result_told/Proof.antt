@@ -8,8 +8,8 @@ use Rattle.answers.proofs.step_result_told.Tie as tie
 
 pub step-result-told-spec : {M : Type 1} → statement M
 step-result-told-spec =
-    tie.close
-    (tie.spec
+    let shown = tie.spec
     (λ c. search needs) (λ c κs. search needs) (λ c. search needs) (λ c κs. search needs)
     (λ c. by-arm stepResultTold (c .before .before .result .given .1) (c .step-told .ensures))
-    (λ c. by-arm stepResultTold (c .before .before .result2 .given .1) (c .told .ensures)))
+    (λ c. by-arm stepResultTold (c .before .before .result2 .given .1) (c .told .ensures)) in
+    tie.close shown

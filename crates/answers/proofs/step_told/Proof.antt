@@ -8,8 +8,7 @@ use Rattle.answers.proofs.step_told.Tie as tie
 
 pub step-told-spec : {M : Type 1} → statement M
 step-told-spec =
-    tie.close
-    (tie.spec
+    let shown = tie.spec
     (λ c. search needs) (λ c. search needs) (λ c. search needs) (λ c κs. search needs) (λ c. search needs)
     (λ c κs. search needs) (λ c. search needs) (λ c κs. search needs) (λ c. search needs) (λ c κs. search needs)
     (λ c. search needs) (λ c κs. search needs) (λ c. search needs) (λ c κs. search needs) (λ c. search needs)
@@ -23,4 +22,5 @@ step-told-spec =
     (λ c. by-arm stepTold (c .before .before .step6 .given .1) (c .boundary .ensures))
     (λ c. by-arm stepTold (c .before .before .step7 .given .1) (c .end .ensures))
     (λ c. by-arm stepTold (c .before .before .step8 .given .1) (c .end2 .ensures))
-    (λ c. by-arm stepTold (c .before .before .before .before .step9 .given .1) (c .new2 .ensures)))
+    (λ c. by-arm stepTold (c .before .before .before .before .step9 .given .1) (c .new2 .ensures)) in
+    tie.close shown

@@ -7,8 +7,8 @@ use Rattle.clocks.proofs.lacking.Tie as tie
 
 pub lacking-spec : {M : Type 1} → statement M
 lacking-spec =
-    tie.close
-    (tie.spec
+    let shown = tie.spec
     (λ c. search needs)
     (λ c. rw (le-leb _ _ (c .if1 .taken)))
-    (λ c. rw (lt-leb _ _ (c .if1 .left))))
+    (λ c. rw (lt-leb _ _ (c .if1 .left))) in
+    tie.close shown

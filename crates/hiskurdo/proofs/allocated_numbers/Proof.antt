@@ -6,7 +6,7 @@ use Rattle.hiskurdo.proofs.allocated_numbers.Tie as tie
 
 pub allocated-numbers-spec : {M : Type 1} → statement M
 allocated-numbers-spec =
-    tie.close
-    (tie.spec
+    let shown = tie.spec
     (λ c κs. search needs) (λ c κs. search needs)
-    (λ c. cc))
+    (λ c. cc) in
+    tie.close shown

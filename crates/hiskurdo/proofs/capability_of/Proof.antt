@@ -7,7 +7,7 @@ use Rattle.hiskurdo.proofs.capability_of.Tie as tie
 
 pub capability-of-spec : {M : Type 1} → statement M
 capability-of-spec =
-    tie.close
-    (tie.spec
+    let shown = tie.spec
     (λ c. rw (eq-eqb _ _ (c .if1 .taken)))
-    (λ c. rw (ne-eqb _ _ (c .if1 .left))))
+    (λ c. rw (ne-eqb _ _ (c .if1 .left))) in
+    tie.close shown

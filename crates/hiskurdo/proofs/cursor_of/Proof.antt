@@ -6,7 +6,7 @@ use Rattle.hiskurdo.proofs.cursor_of.Tie as tie
 
 pub cursor-of-spec : {M : Type 1} → statement M
 cursor-of-spec =
-    tie.close
-    (tie.spec
+    let shown = tie.spec
     (λ c κs. search needs) (λ c κs. search needs)
-    (λ c. cc))
+    (λ c. cc) in
+    tie.close shown

@@ -6,7 +6,7 @@ use Rattle.hiskurdo.proofs.hiskurdo_cursor_advance.Tie as tie
 
 pub hiskurdo-cursor-advance-spec : {M : Type 1} → statement M
 hiskurdo-cursor-advance-spec =
-    tie.close
-    (tie.spec
+    let shown = tie.spec
     (λ c κs. search needs) (λ c κs. search needs) (λ c κs. search needs) (λ c κs. search needs)
-    (λ c. cc))
+    (λ c. cc) in
+    tie.close shown

@@ -6,7 +6,7 @@ use Rattle.hiskurdo.proofs.hiskurdo_cursor_new.Tie as tie
 
 pub hiskurdo-cursor-new-spec : {M : Type 1} → statement M
 hiskurdo-cursor-new-spec =
-    tie.close
-    (tie.spec
+    let shown = tie.spec
     (λ c κs. search needs) (λ c κs. search needs)
-    (λ c. rw (c .cursor-numbers .ensures, c .before .new .ensures)))
+    (λ c. rw (c .cursor-numbers .ensures, c .before .new .ensures)) in
+    tie.close shown

@@ -6,7 +6,7 @@ use Rattle.hiskurdo.proofs.hiskurdo_cursor_next_effect_id.Tie as tie
 
 pub hiskurdo-cursor-next-effect-id-spec : {M : Type 1} → statement M
 hiskurdo-cursor-next-effect-id-spec =
-    tie.close
-    (tie.spec
+    let shown = tie.spec
     (λ c κs. search needs) (λ c κs. search needs) (λ c κs. search needs)
-    (λ c. rw (c .told .ensures, c .before .next-effect-id .ensures, c .before .before .cursor-of .ensures)))
+    (λ c. rw (c .told .ensures, c .before .next-effect-id .ensures, c .before .before .cursor-of .ensures)) in
+    tie.close shown

@@ -6,7 +6,7 @@ use Rattle.hiskurdo.proofs.hiskurdo_cursor_next_seq.Tie as tie
 
 pub hiskurdo-cursor-next-seq-spec : {M : Type 1} → statement M
 hiskurdo-cursor-next-seq-spec =
-    tie.close
-    (tie.spec
+    let shown = tie.spec
     (λ c κs. search needs) (λ c κs. search needs) (λ c κs. search needs)
-    (λ c. rw (c .told .ensures, c .before .next-seq .ensures, c .before .before .cursor-of .ensures)))
+    (λ c. rw (c .told .ensures, c .before .next-seq .ensures, c .before .before .cursor-of .ensures)) in
+    tie.close shown

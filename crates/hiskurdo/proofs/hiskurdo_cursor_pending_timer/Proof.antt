@@ -6,7 +6,7 @@ use Rattle.hiskurdo.proofs.hiskurdo_cursor_pending_timer.Tie as tie
 
 pub hiskurdo-cursor-pending-timer-spec : {M : Type 1} → statement M
 hiskurdo-cursor-pending-timer-spec =
-    tie.close
-    (tie.spec
+    let shown = tie.spec
     (λ c κs. search needs) (λ c κs. search needs) (λ c κs. search needs)
-    (λ c. rw (c .pending-timer-told .ensures, c .before .pending-timer .ensures, c .before .before .cursor-of .ensures)))
+    (λ c. rw (c .pending-timer-told .ensures, c .before .pending-timer .ensures, c .before .before .cursor-of .ensures)) in
+    tie.close shown

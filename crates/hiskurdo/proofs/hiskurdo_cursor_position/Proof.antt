@@ -6,7 +6,7 @@ use Rattle.hiskurdo.proofs.hiskurdo_cursor_position.Tie as tie
 
 pub hiskurdo-cursor-position-spec : {M : Type 1} → statement M
 hiskurdo-cursor-position-spec =
-    tie.close
-    (tie.spec
+    let shown = tie.spec
     (λ c κs. search needs) (λ c κs. search needs) (λ c κs. search needs)
-    (λ c. rw (c .position-told .ensures, c .before .position .ensures, c .before .before .cursor-of .ensures)))
+    (λ c. rw (c .position-told .ensures, c .before .position .ensures, c .before .before .cursor-of .ensures)) in
+    tie.close shown

@@ -6,7 +6,7 @@ use Rattle.hiskurdo.proofs.hiskurdo_cursor_run.Tie as tie
 
 pub hiskurdo-cursor-run-spec : {M : Type 1} → statement M
 hiskurdo-cursor-run-spec =
-    tie.close
-    (tie.spec
+    let shown = tie.spec
     (λ c κs. search needs) (λ c κs. search needs)
-    (λ c. rw (c .run .ensures, c .before .cursor-of .ensures)))
+    (λ c. rw (c .run .ensures, c .before .cursor-of .ensures)) in
+    tie.close shown

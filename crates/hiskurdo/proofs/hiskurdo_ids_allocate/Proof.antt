@@ -6,7 +6,7 @@ use Rattle.hiskurdo.proofs.hiskurdo_ids_allocate.Tie as tie
 
 pub hiskurdo-ids-allocate-spec : {M : Type 1} → statement M
 hiskurdo-ids-allocate-spec =
-    tie.close
-    (tie.spec
+    let shown = tie.spec
     (λ c κs. search needs) (λ c κs. search needs) (λ c κs. search needs)
-    (λ c. rw (c .allocated-numbers .ensures, c .before .allocate .ensures, c .before .before .ids-of .ensures)))
+    (λ c. rw (c .allocated-numbers .ensures, c .before .allocate .ensures, c .before .before .ids-of .ensures)) in
+    tie.close shown

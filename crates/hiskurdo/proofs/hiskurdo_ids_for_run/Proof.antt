@@ -6,7 +6,7 @@ use Rattle.hiskurdo.proofs.hiskurdo_ids_for_run.Tie as tie
 
 pub hiskurdo-ids-for-run-spec : {M : Type 1} → statement M
 hiskurdo-ids-for-run-spec =
-    tie.close
-    (tie.spec
+    let shown = tie.spec
     (λ c κs. search needs) (λ c κs. search needs)
-    (λ c. cc))
+    (λ c. cc) in
+    tie.close shown

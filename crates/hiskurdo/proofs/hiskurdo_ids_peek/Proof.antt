@@ -6,7 +6,7 @@ use Rattle.hiskurdo.proofs.hiskurdo_ids_peek.Tie as tie
 
 pub hiskurdo-ids-peek-spec : {M : Type 1} → statement M
 hiskurdo-ids-peek-spec =
-    tie.close
-    (tie.spec
+    let shown = tie.spec
     (λ c κs. search needs) (λ c κs. search needs) (λ c κs. search needs)
-    (λ c. rw (c .told .ensures, c .before .peek .ensures, c .before .before .ids-of .ensures)))
+    (λ c. rw (c .told .ensures, c .before .peek .ensures, c .before .before .ids-of .ensures)) in
+    tie.close shown

@@ -6,7 +6,7 @@ use Rattle.hiskurdo.proofs.hiskurdo_ids_resume.Tie as tie
 
 pub hiskurdo-ids-resume-spec : {M : Type 1} → statement M
 hiskurdo-ids-resume-spec =
-    tie.close
-    (tie.spec
+    let shown = tie.spec
     (λ c κs. search needs) (λ c κs. search needs) (λ c κs. search needs)
-    (λ c. rw (c .ids-numbers .ensures, c .before .resume .ensures, c .before .before .seq-option-of .ensures)))
+    (λ c. rw (c .ids-numbers .ensures, c .before .resume .ensures, c .before .before .seq-option-of .ensures)) in
+    tie.close shown

@@ -6,7 +6,7 @@ use Rattle.hiskurdo.proofs.hiskurdo_record_kind.Tie as tie
 
 pub hiskurdo-record-kind-spec : {M : Type 1} → statement M
 hiskurdo-record-kind-spec =
-    tie.close
-    (tie.spec
+    let shown = tie.spec
     (λ c κs. search needs) (λ c κs. search needs)
-    (λ c. rw (c .kind .ensures, c .before .record-of .ensures)))
+    (λ c. rw (c .kind .ensures, c .before .record-of .ensures)) in
+    tie.close shown

@@ -6,7 +6,7 @@ use Rattle.hiskurdo.proofs.hiskurdo_seq_successor.Tie as tie
 
 pub hiskurdo-seq-successor-spec : {M : Type 1} → statement M
 hiskurdo-seq-successor-spec =
-    tie.close
-    (tie.spec
+    let shown = tie.spec
     (λ c κs. search needs) (λ c κs. search needs)
-    (λ c. cc))
+    (λ c. cc) in
+    tie.close shown

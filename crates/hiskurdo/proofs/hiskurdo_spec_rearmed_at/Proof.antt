@@ -6,7 +6,7 @@ use Rattle.hiskurdo.proofs.hiskurdo_spec_rearmed_at.Tie as tie
 
 pub hiskurdo-spec-rearmed-at-spec : {M : Type 1} → statement M
 hiskurdo-spec-rearmed-at-spec =
-    tie.close
-    (tie.spec
+    let shown = tie.spec
     (λ c κs. search needs) (λ c κs. search needs)
-    (λ c. cc))
+    (λ c. cc) in
+    tie.close shown

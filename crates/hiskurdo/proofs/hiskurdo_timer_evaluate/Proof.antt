@@ -6,7 +6,7 @@ use Rattle.hiskurdo.proofs.hiskurdo_timer_evaluate.Tie as tie
 
 pub hiskurdo-timer-evaluate-spec : {M : Type 1} → statement M
 hiskurdo-timer-evaluate-spec =
-    tie.close
-    (tie.spec
+    let shown = tie.spec
     (λ c κs. search needs) (λ c κs. search needs) (λ c κs. search needs)
-    (λ c. cc))
+    (λ c. cc) in
+    tie.close shown

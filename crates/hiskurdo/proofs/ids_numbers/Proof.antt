@@ -9,8 +9,8 @@ use Rattle.hiskurdo.proofs.ids_numbers.Tie as tie
 
 pub ids-numbers-spec : {M : Type 1} → statement M
 ids-numbers-spec =
-    tie.close
-    (tie.spec
+    let shown = tie.spec
     (λ c. search needs) (λ c. search needs)
     (λ c. by-arm (idsNumbersFor (c .before .before .before .args .ids .run .0)) (c .before .next .given .1) refl)
-    (λ c. by-arm (idsNumbersFor (c .before .before .args .ids .run .0)) (c .enum-told .given .1) refl))
+    (λ c. by-arm (idsNumbersFor (c .before .before .args .ids .run .0)) (c .enum-told .given .1) refl) in
+    tie.close shown

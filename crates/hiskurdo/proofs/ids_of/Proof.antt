@@ -6,7 +6,7 @@ use Rattle.hiskurdo.proofs.ids_of.Tie as tie
 
 pub ids-of-spec : {M : Type 1} → statement M
 ids-of-spec =
-    tie.close
-    (tie.spec
+    let shown = tie.spec
     (λ c κs. search needs)
-    (λ c. cc))
+    (λ c. cc) in
+    tie.close shown

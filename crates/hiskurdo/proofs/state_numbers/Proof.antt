@@ -8,8 +8,7 @@ use Rattle.hiskurdo.proofs.state_numbers.Tie as tie
 
 pub state-numbers-spec : {M : Type 1} → statement M
 state-numbers-spec =
-    tie.close
-    (tie.spec
+    let shown = tie.spec
     (λ c. search needs) (λ c κs. search needs) (λ c. search needs) (λ c κs. search needs) (λ c. search needs)
     (λ c κs. search needs) (λ c. search needs) (λ c κs. search needs) (λ c. search needs) (λ c κs. search needs)
     (λ c. search needs) (λ c κs. search needs) (λ c. search needs) (λ c κs. search needs) (λ c κs. search needs)
@@ -19,4 +18,5 @@ state-numbers-spec =
     (λ c. by-arm (cursorNumbersFor (c .before .before .before .before .args .ids)) (c .before .before .state2 .given .1) (rw (c .bare-numbers4 .ensures)))
     (λ c. by-arm (cursorNumbersFor (c .before .before .before .args .ids)) (c .before .enum-told3 .given .1) (c .bare-numbers5 .ensures))
     (λ c. by-arm (cursorNumbersFor (c .before .before .before .args .ids)) (c .before .enum-told4 .given .1) (c .bare-numbers6 .ensures))
-    (λ c. by-arm (cursorNumbersFor (c .before .before .before .before .before .args .ids)) (c .before .before .before .state3 .given .1) (rw (c .bare-numbers7 .ensures, c .before .number .ensures))))
+    (λ c. by-arm (cursorNumbersFor (c .before .before .before .before .before .args .ids)) (c .before .before .before .state3 .given .1) (rw (c .bare-numbers7 .ensures, c .before .number .ensures))) in
+    tie.close shown

@@ -11,8 +11,7 @@ use Rattle.hiskurdo.proofs.state_of.Tie as tie
 
 pub state-of-spec : {M : Type 1} → statement M
 state-of-spec =
-    tie.close
-    (tie.spec
+    let shown = tie.spec
     (λ c κs. search needs)
     (λ c. by-arm (λ (position : ℕ). stateAt position (c .before .args .n)) (c .match .keys1) refl)
     (λ c. by-arm (λ (position : ℕ). stateAt position (c .before .args .n)) (c .match .keys2) refl)
@@ -20,4 +19,5 @@ state-of-spec =
     (λ c. by-arm (λ (position : ℕ). stateAt position (c .before .args .n)) (c .match .keys4) refl)
     (λ c. by-arm (λ (position : ℕ). stateAt position (c .before .args .n)) (c .match .keys5) refl)
     (λ c. by-arm (λ (position : ℕ). stateAt position (c .before .args .n)) (c .match .keys6) refl)
-    (λ c. rw (ne-eqb _ 0 (c .before .match .rest .0 .0 .0 .0 .0 .1), ne-eqb _ 1 (c .before .match .rest .0 .0 .0 .0 .1), ne-eqb _ 2 (c .before .match .rest .0 .0 .0 .1), ne-eqb _ 3 (c .before .match .rest .0 .0 .1), ne-eqb _ 4 (c .before .match .rest .0 .1), ne-eqb _ 5 (c .before .match .rest .1), c .error-of .ensures)))
+    (λ c. rw (ne-eqb _ 0 (c .before .match .rest .0 .0 .0 .0 .0 .1), ne-eqb _ 1 (c .before .match .rest .0 .0 .0 .0 .1), ne-eqb _ 2 (c .before .match .rest .0 .0 .0 .1), ne-eqb _ 3 (c .before .match .rest .0 .0 .1), ne-eqb _ 4 (c .before .match .rest .0 .1), ne-eqb _ 5 (c .before .match .rest .1), c .error-of .ensures)) in
+    tie.close shown

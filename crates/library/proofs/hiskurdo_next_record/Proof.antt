@@ -10,8 +10,8 @@ use Rattle.library.proofs.hiskurdo_next_record.Tie as tie
 
 pub hiskurdo-next-record-spec : {M : Type 1} → statement M
 hiskurdo-next-record-spec =
-    tie.close
-    (tie.spec (λ c κs. search needs) (λ c. search needs) (λ c κs. search needs) (λ c κs. search needs) (λ c κs. search needs)
-    (λ c. search needs) (λ c κs. search needs)
-    (λ c. by-arm (recordNumbers (record { entry = c .before .before .before .before .before .before .before .before .args .entry; body = c .before .before .before .before .before .before .before .before .args .body })) (sym (c .before .before .before .before .before .before .next-record .ensures) ∙ c .before .before .before .before .«record» .given .1) (rw (c .entry-numbers .ensures, c .before .record-body .ensures, c .before .before .record-entry .ensures)))
-    (λ c. by-arm (recordNumbers (record { entry = c .before .before .before .before .before .args .entry; body = c .before .before .before .before .before .args .body })) (sym (c .before .before .before .next-record .ensures) ∙ c .before .enum-told .given .1) (c .nothing-here .ensures)))
+    let shown = tie.spec
+    (λ c κs. search needs) (λ c. search needs) (λ c κs. search needs) (λ c. search needs) (λ c κs. search needs)
+    (λ c. by-arm (recordNumbers (record { entry = c .before .before .before .before .before .before .args .entry; body = c .before .before .before .before .before .before .args .body })) (sym (c .before .before .before .before .next-record .ensures) ∙ c .before .before .«record» .given .1) (c .record-numbers .ensures))
+    (λ c. by-arm (recordNumbers (record { entry = c .before .before .before .before .before .args .entry; body = c .before .before .before .before .before .args .body })) (sym (c .before .before .before .next-record .ensures) ∙ c .before .enum-told .given .1) (c .nothing-here .ensures)) in
+    tie.close shown

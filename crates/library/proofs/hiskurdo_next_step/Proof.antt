@@ -10,8 +10,9 @@ use Rattle.library.proofs.hiskurdo_next_step.Tie as tie
 
 pub hiskurdo-next-step-spec : {M : Type 1} → statement M
 hiskurdo-next-step-spec =
-    tie.close
-    (tie.spec (λ c κs. search needs) (λ c. search needs) (λ c κs. search needs) (λ c κs. search needs) (λ c κs. search needs)
+    let shown = tie.spec
+    (λ c κs. search needs) (λ c. search needs) (λ c κs. search needs) (λ c κs. search needs) (λ c κs. search needs)
     (λ c. search needs) (λ c κs. search needs)
     (λ c. by-arm (stepNumbers (record { entry = c .before .before .before .before .before .before .before .before .args .entry; body = c .before .before .before .before .before .before .before .before .args .body })) (sym (c .before .before .before .before .before .before .next-step .ensures) ∙ c .before .before .before .before .step .given .1) (rw (c .entry-numbers .ensures, c .before .step-body .ensures, c .before .before .step-entry .ensures)))
-    (λ c. by-arm (stepNumbers (record { entry = c .before .before .before .before .before .args .entry; body = c .before .before .before .before .before .args .body })) (sym (c .before .before .before .next-step .ensures) ∙ c .before .enum-told .given .1) (c .nothing-here .ensures)))
+    (λ c. by-arm (stepNumbers (record { entry = c .before .before .before .before .before .args .entry; body = c .before .before .before .before .before .args .body })) (sym (c .before .before .before .next-step .ensures) ∙ c .before .enum-told .given .1) (c .nothing-here .ensures)) in
+    tie.close shown

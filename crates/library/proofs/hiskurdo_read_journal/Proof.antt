@@ -9,7 +9,8 @@ use Rattle.library.proofs.hiskurdo_read_journal.Tie as tie
 
 pub hiskurdo-read-journal-spec : {M : Type 1} → statement M
 hiskurdo-read-journal-spec =
-    tie.close
-    (tie.spec (λ c κs. search needs) (λ c. search needs) (λ c κs. search needs) (λ c. search needs) (λ c κs. search needs)
+    let shown = tie.spec
+    (λ c κs. search needs) (λ c. search needs) (λ c κs. search needs) (λ c. search needs) (λ c κs. search needs)
     (λ c. by-arm journalNumbers (sym (c .before .before .before .before .read-journal .ensures) ∙ c .before .before .number .given .1) (c .refused .ensures))
-    (λ c. by-arm journalNumbers (sym (c .before .before .before .before .read-journal .ensures) ∙ c .before .before .run .given .1) (c .readable .ensures)))
+    (λ c. by-arm journalNumbers (sym (c .before .before .before .before .read-journal .ensures) ∙ c .before .before .run .given .1) (c .readable .ensures)) in
+    tie.close shown

@@ -6,5 +6,6 @@ use Rattle.library.proofs.nothing_here.Tie as tie
 
 pub nothing-here-spec : {M : Type 1} → statement M
 nothing-here-spec =
-    tie.close
-    (tie.spec (λ c κs. search needs) (λ c κs. search needs) (λ c. rw (c .entry-numbers .ensures, c .before .entry-with .ensures)))
+    let shown = tie.spec
+    (λ c κs. search needs) (λ c κs. search needs) (λ c. rw (c .entry-numbers .ensures, c .before .entry-with .ensures)) in
+    tie.close shown

@@ -9,6 +9,6 @@ use Rattle.library.proofs.step_body.Tie as tie
 
 pub step-body-spec : {M : Type 1} → statement M
 step-body-spec =
-    tie.close
-    (tie.spec (λ c. search needs) (λ c. search needs) (λ c. by-arm stepBody (c .before .step .given .1) refl)
-    (λ c. by-arm stepBody (c .enum-told .given .1) refl))
+    let shown = tie.spec (λ c. search needs) (λ c. search needs) (λ c. by-arm stepBody (c .before .step .given .1) refl)
+    (λ c. by-arm stepBody (c .enum-told .given .1) refl) in
+    tie.close shown

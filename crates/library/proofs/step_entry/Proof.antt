@@ -8,8 +8,9 @@ use Rattle.library.proofs.step_entry.Tie as tie
 
 pub step-entry-spec : {M : Type 1} → statement M
 step-entry-spec =
-    tie.close
-    (tie.spec (λ c. search needs) (λ c. search needs) (λ c. search needs) (λ c κs. search needs) (λ c. search needs)
+    let shown = tie.spec
+    (λ c. search needs) (λ c. search needs) (λ c. search needs) (λ c κs. search needs) (λ c. search needs)
     (λ c κs. search needs) (λ c κs. search needs) (λ c κs. search needs)
     (λ c. by-arm stepEntry (c .before .before .step .given .1) (c .entry-with .ensures))
-    (λ c. by-arm stepEntry (c .before .before .before .before .step2 .given .1) (rw (c .entry-with2 .ensures, c .before .deadline .ensures, c .before .before .clock-kind .ensures))))
+    (λ c. by-arm stepEntry (c .before .before .before .before .step2 .given .1) (rw (c .entry-with2 .ensures, c .before .deadline .ensures, c .before .before .clock-kind .ensures))) in
+    tie.close shown

@@ -19,4 +19,6 @@ returns c =
     )
 
 pub field-spec : {M : Type 1} → statement M
-field-spec = tie.close (tie.spec (λ c κs. omega (arith, twenty (c .args .n) (omega arith))) push-requires returns)
+field-spec =
+    let shown = tie.spec (λ c κs. omega (arith, twenty (c .args .n) (omega arith))) push-requires returns in
+    tie.close shown

@@ -12,5 +12,6 @@ returns-2 c = rw (c .before .before .answer2 .given .1) (c .refused .ensures)
 
 pub line-of-spec : {M : Type 1} → statement M
 line-of-spec =
-    tie.close
-    (tie.spec (λ c. search needs) (λ c κs. search needs) (λ c. search needs) (λ c κs. search needs) returns returns-2)
+    let shown = tie.spec
+    (λ c. search needs) (λ c κs. search needs) (λ c. search needs) (λ c κs. search needs) returns returns-2 in
+    tie.close shown

@@ -13,4 +13,6 @@ returns c = (
 )
 
 pub numbers-spec : {M : Type 1} → statement M
-numbers-spec = tie.close (tie.spec (λ c κs. search needs) (λ c κs. search needs) (λ c κs. search needs) returns)
+numbers-spec =
+    let shown = tie.spec (λ c κs. search needs) (λ c κs. search needs) (λ c κs. search needs) returns in
+    tie.close shown

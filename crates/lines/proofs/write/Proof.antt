@@ -43,6 +43,7 @@ returns c =
 
 pub write-spec : {M : Type 1} → statement M
 write-spec =
-    tie.close
-    (tie.spec Inv-loop μ-loop loop-holds (λ c. search needs) push-requires (λ c. search needs) (λ c. search needs)
-    loop-again returns)
+    let shown = tie.spec
+    Inv-loop μ-loop loop-holds (λ c. search needs) push-requires (λ c. search needs) (λ c. search needs)
+    loop-again returns in
+    tie.close shown

@@ -11,4 +11,6 @@ returns : tie.Need-returns
 returns c = subst (λ (answer : Answer). Holds (c .line-of .result) (lineOf answer)) (search needs) (c .line-of .ensures)
 
 pub verdict-line-spec : {M : Type 1} → statement M
-verdict-line-spec = tie.close (tie.spec (λ c κs. search needs) (λ c κs. search needs) returns)
+verdict-line-spec =
+    let shown = tie.spec (λ c κs. search needs) (λ c κs. search needs) returns in
+    tie.close shown

@@ -8,8 +8,8 @@ use Rattle.answers.proofs.machines.finished.Tie as tie
 
 pub finished-spec : {M : Type 1} → statement M
 finished-spec =
-    tie.close
-    (tie.spec
+    let shown = tie.spec
     (λ c. search needs) (λ c κs. search needs) (λ c. search needs) (λ c κs. search needs)
     (λ c. by-arm finishedTold (c .before .before .outcome .given .1) (c .end .ensures))
-    (λ c. by-arm finishedTold (c .before .before .outcome2 .given .1) (c .end2 .ensures)))
+    (λ c. by-arm finishedTold (c .before .before .outcome2 .given .1) (c .end2 .ensures)) in
+    tie.close shown

@@ -8,8 +8,8 @@ use Rattle.answers.proofs.machines.intent_result_told.Tie as tie
 
 pub intent-result-told-spec : {M : Type 1} → statement M
 intent-result-told-spec =
-    tie.close
-    (tie.spec
+    let shown = tie.spec
     (λ c. search needs) (λ c κs. search needs) (λ c. search needs) (λ c κs. search needs)
     (λ c. by-arm intentResultTold (c .before .before .result .given .1) (c .intent-told .ensures))
-    (λ c. by-arm intentResultTold (c .before .before .result2 .given .1) (c .told .ensures)))
+    (λ c. by-arm intentResultTold (c .before .before .result2 .given .1) (c .told .ensures)) in
+    tie.close shown

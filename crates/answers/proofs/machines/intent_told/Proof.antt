@@ -8,10 +8,10 @@ use Rattle.answers.proofs.machines.intent_told.Tie as tie
 
 pub intent-told-spec : {M : Type 1} → statement M
 intent-told-spec =
-    tie.close
-    (tie.spec
+    let shown = tie.spec
     (λ c. search needs) (λ c κs. search needs) (λ c. search needs) (λ c κs. search needs) (λ c. search needs)
     (λ c κs. search needs)
     (λ c. by-arm intentTold (c .before .before .intent .given .1) (c .boundary .ensures))
     (λ c. by-arm intentTold (c .before .before .intent2 .given .1) (c .boundary2 .ensures))
-    (λ c. by-arm intentTold (c .before .before .intent3 .given .1) (c .finished .ensures)))
+    (λ c. by-arm intentTold (c .before .before .intent3 .given .1) (c .finished .ensures)) in
+    tie.close shown

@@ -8,8 +8,8 @@ use Rattle.answers.proofs.machines.resolve_told.Tie as tie
 
 pub resolve-told-spec : {M : Type 1} → statement M
 resolve-told-spec =
-    tie.close
-    (tie.spec
+    let shown = tie.spec
     (λ c. search needs) (λ c κs. search needs) (λ c. search needs) (λ c κs. search needs)
     (λ c. by-arm resolveTold (c .before .before .resolve .given .1) (c .replayed .ensures))
-    (λ c. by-arm resolveTold (c .before .before .resolve2 .given .1) (c .boundary .ensures)))
+    (λ c. by-arm resolveTold (c .before .before .resolve2 .given .1) (c .boundary .ensures)) in
+    tie.close shown

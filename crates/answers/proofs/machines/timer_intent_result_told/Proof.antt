@@ -8,8 +8,8 @@ use Rattle.answers.proofs.machines.timer_intent_result_told.Tie as tie
 
 pub timer-intent-result-told-spec : {M : Type 1} → statement M
 timer-intent-result-told-spec =
-    tie.close
-    (tie.spec
+    let shown = tie.spec
     (λ c. search needs) (λ c κs. search needs) (λ c. search needs) (λ c κs. search needs)
     (λ c. by-arm timerIntentResultTold (c .before .before .result .given .1) (c .timer-intent-told .ensures))
-    (λ c. by-arm timerIntentResultTold (c .before .before .result2 .given .1) (c .told .ensures)))
+    (λ c. by-arm timerIntentResultTold (c .before .before .result2 .given .1) (c .told .ensures)) in
+    tie.close shown

@@ -9,9 +9,9 @@ use Rattle.answers.proofs.machines.timer_resolve_told.Tie as tie
 
 pub timer-resolve-told-spec : {M : Type 1} → statement M
 timer-resolve-told-spec =
-    tie.close
-    (tie.spec
+    let shown = tie.spec
     (λ c. search needs) (λ c κs. search needs) (λ c. search needs) (λ c. search needs) (λ c κs. search needs)
     (λ c. search needs) (λ c κs. search needs) (λ c κs. search needs)
     (λ c. by-arm timerResolveTold (c .before .before .resolve .given .1) (c .boundary .ensures))
-    (λ c. by-arm timerResolveTold (c .before .before .before .before .before .before .resolve2 .given .1) (c .new .ensures ∙ rw (c .before .before .before .clock-kind .ensures, c .before .deadline .ensures))))
+    (λ c. by-arm timerResolveTold (c .before .before .before .before .before .before .resolve2 .given .1) (c .new .ensures ∙ rw (c .before .before .before .clock-kind .ensures, c .before .deadline .ensures))) in
+    tie.close shown

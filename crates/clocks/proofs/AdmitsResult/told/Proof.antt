@@ -8,8 +8,8 @@ use Rattle.clocks.proofs.AdmitsResult.told.Tie as tie
 
 pub told-spec : {M : Type 1} → statement M
 told-spec =
-    tie.close
-    (tie.spec
+    let shown = tie.spec
     (λ c. search needs) (λ c κs. search needs) (λ c. search needs) (λ c κs. search needs)
     (λ c. by-arm admitsResultTold (c .before .enum-told .given .1) (c .new .ensures))
-    (λ c. by-arm admitsResultTold (c .before .before .self .given .1) (c .told .ensures)))
+    (λ c. by-arm admitsResultTold (c .before .before .self .given .1) (c .told .ensures)) in
+    tie.close shown

@@ -9,10 +9,10 @@ use Rattle.clocks.proofs.TimerResult.told.Tie as tie
 
 pub told-spec : {M : Type 1} → statement M
 told-spec =
-    tie.close
-    (tie.spec
+    let shown = tie.spec
     (λ c. search needs) (λ c κs. search needs) (λ c. search needs) (λ c κs. search needs) (λ c κs. search needs)
     (λ c. search needs) (λ c κs. search needs)
     (λ c. by-arm timerResultTold (c .before .before .before .before .before .self .given .1)
     (c .new .ensures ∙ rw (c .before .before .before .clock-kind .ensures, c .before .deadline .ensures)))
-    (λ c. by-arm timerResultTold (c .before .before .self2 .given .1) (c .told .ensures)))
+    (λ c. by-arm timerResultTold (c .before .before .self2 .given .1) (c .told .ensures)) in
+    tie.close shown

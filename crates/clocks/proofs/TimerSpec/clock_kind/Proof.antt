@@ -9,8 +9,8 @@ use Rattle.clocks.proofs.TimerSpec.clock_kind.Tie as tie
 
 pub clock-kind-spec : {M : Type 1} → statement M
 clock-kind-spec =
-    tie.close
-    (tie.spec
+    let shown = tie.spec
     (λ c. search needs) (λ c. search needs)
     (λ c. by-arm specClock (c .enum-told .given .1) refl)
-    (λ c. by-arm specClock (c .enum-told2 .given .1) refl))
+    (λ c. by-arm specClock (c .enum-told2 .given .1) refl) in
+    tie.close shown

@@ -11,9 +11,9 @@ use Rattle.clocks.proofs.TimerSpec.rearmed_at.Tie as tie
 
 pub rearmed-at-spec : {M : Type 1} → statement M
 rearmed-at-spec =
-    tie.close
-    (tie.spec
+    let shown = tie.spec
     (λ c. search needs) (λ c. search needs)
     (λ c. by-arm (λ (spec : TimerSpec). rearmedAt spec (c .before .before .before .args .recorded) (c .before .before .before .args .now)) (c .before .enum-told .given .1) (sym (min-eq-right (le-of-lt (c .if1 .taken)))))
     (λ c. by-arm (λ (spec : TimerSpec). rearmedAt spec (c .before .before .before .args .recorded) (c .before .before .before .args .now)) (c .before .enum-told .given .1) (sym (min-eq-left (c .if1 .left))))
-    (λ c. by-arm (λ (spec : TimerSpec). rearmedAt spec (c .before .before .args .recorded) (c .before .before .args .now)) (c .enum-told2 .given .1) (refl)))
+    (λ c. by-arm (λ (spec : TimerSpec). rearmedAt spec (c .before .before .args .recorded) (c .before .before .args .now)) (c .enum-told2 .given .1) (refl)) in
+    tie.close shown

@@ -8,9 +8,9 @@ use Rattle.errors.proofs.KernelError.told.Tie as tie
 
 pub told-spec : {M : Type 1} → statement M
 told-spec =
-    tie.close
-    (tie.spec
+    let shown = tie.spec
     (λ c κs. search needs)
     (λ c. search needs)
     (λ c κs. search needs)
-    (λ c. c .new .ensures ∙ ap told0 (c .before .number .ensures)))
+    (λ c. c .new .ensures ∙ ap told0 (c .before .number .ensures)) in
+    tie.close shown

@@ -6,7 +6,7 @@ use Rattle.hiskurdo.proofs.machines.answered.Tie as tie
 
 pub answered-spec : {M : Type 1} → statement M
 answered-spec =
-    tie.close
-    (tie.spec
+    let shown = tie.spec
     (λ c κs. search needs)
-    (λ c. rw (c .machine-numbers .ensures)))
+    (λ c. rw (c .machine-numbers .ensures)) in
+    tie.close shown

@@ -6,7 +6,7 @@ use Rattle.hiskurdo.proofs.machines.hiskurdo_divergence_from.Tie as tie
 
 pub hiskurdo-divergence-from-spec : {M : Type 1} → statement M
 hiskurdo-divergence-from-spec =
-    tie.close
-    (tie.spec
+    let shown = tie.spec
     (λ c κs. search needs) (λ c κs. search needs) (λ c κs. search needs) (λ c κs. search needs)
-    (λ c. rw (c .number .ensures, c .before .divergence-from .ensures, c .before .before .pending-from .ensures, c .before .before .before .request-of .ensures)))
+    (λ c. rw (c .number .ensures, c .before .divergence-from .ensures, c .before .before .pending-from .ensures, c .before .before .before .request-of .ensures)) in
+    tie.close shown

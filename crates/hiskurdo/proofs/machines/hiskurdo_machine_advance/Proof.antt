@@ -6,8 +6,8 @@ use Rattle.hiskurdo.proofs.machines.hiskurdo_machine_advance.Tie as tie
 
 pub hiskurdo-machine-advance-spec : {M : Type 1} → statement M
 hiskurdo-machine-advance-spec =
-    tie.close
-    (tie.spec
+    let shown = tie.spec
     (λ c κs. search needs) (λ c κs. search needs) (λ c κs. search needs) (λ c κs. search needs)
     (λ c κs. search needs)
-    (λ c. rw (c .answered .ensures, c .before .step-result-told .ensures, c .before .before .before .advance .ensures, c .before .before .before .before .record-of .ensures, c .before .before .before .before .before .machine-of .ensures)))
+    (λ c. rw (c .answered .ensures, c .before .step-result-told .ensures, c .before .before .before .advance .ensures, c .before .before .before .before .record-of .ensures, c .before .before .before .before .before .machine-of .ensures)) in
+    tie.close shown

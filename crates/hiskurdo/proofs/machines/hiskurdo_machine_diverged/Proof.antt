@@ -6,7 +6,7 @@ use Rattle.hiskurdo.proofs.machines.hiskurdo_machine_diverged.Tie as ti
 
 pub hiskurdo-machine-diverged-spec : {M : Type 1} → statement M
 hiskurdo-machine-diverged-spec =
-    tie.close
-    (tie.spec
+    let shown = tie.spec
     (λ c κs. search needs) (λ c κs. search needs) (λ c κs. search needs)
-    (λ c. rw (c .number .ensures, c .before .diverged .ensures, c .before .before .machine-of .ensures)))
+    (λ c. rw (c .number .ensures, c .before .diverged .ensures, c .before .before .machine-of .ensures)) in
+    tie.close shown

@@ -6,7 +6,7 @@ use Rattle.hiskurdo.proofs.machines.hiskurdo_machine_new.Tie as tie
 
 pub hiskurdo-machine-new-spec : {M : Type 1} → statement M
 hiskurdo-machine-new-spec =
-    tie.close
-    (tie.spec
+    let shown = tie.spec
     (λ c κs. search needs) (λ c κs. search needs)
-    (λ c. rw (c .machine-numbers .ensures, c .before .new .ensures)))
+    (λ c. rw (c .machine-numbers .ensures, c .before .new .ensures)) in
+    tie.close shown

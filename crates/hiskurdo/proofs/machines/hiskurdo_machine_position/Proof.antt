@@ -6,7 +6,7 @@ use Rattle.hiskurdo.proofs.machines.hiskurdo_machine_position.Tie as ti
 
 pub hiskurdo-machine-position-spec : {M : Type 1} → statement M
 hiskurdo-machine-position-spec =
-    tie.close
-    (tie.spec
+    let shown = tie.spec
     (λ c κs. search needs) (λ c κs. search needs) (λ c κs. search needs)
-    (λ c. rw (c .position-told .ensures, c .before .position .ensures, c .before .before .machine-of .ensures)))
+    (λ c. rw (c .position-told .ensures, c .before .position .ensures, c .before .before .machine-of .ensures)) in
+    tie.close shown

@@ -6,7 +6,7 @@ use Rattle.hiskurdo.proofs.machines.hiskurdo_machine_run.Tie as tie
 
 pub hiskurdo-machine-run-spec : {M : Type 1} → statement M
 hiskurdo-machine-run-spec =
-    tie.close
-    (tie.spec
+    let shown = tie.spec
     (λ c κs. search needs) (λ c κs. search needs)
-    (λ c. rw (c .run .ensures, c .before .machine-of .ensures)))
+    (λ c. rw (c .run .ensures, c .before .machine-of .ensures)) in
+    tie.close shown

@@ -6,8 +6,8 @@ use Rattle.hiskurdo.proofs.machines.hiskurdo_machine_timer_intent.Tie a
 
 pub hiskurdo-machine-timer-intent-spec : {M : Type 1} → statement M
 hiskurdo-machine-timer-intent-spec =
-    tie.close
-    (tie.spec
+    let shown = tie.spec
     (λ c κs. search needs) (λ c κs. search needs) (λ c κs. search needs) (λ c κs. search needs)
     (λ c κs. search needs) (λ c κs. search needs)
-    (λ c. rw (c .answered .ensures, c .before .timer-intent-result-told .ensures, c .before .before .before .timer-intent .ensures, c .before .before .before .before .next-of .ensures, c .before .before .before .before .before .machine-of .ensures, c .before .before .before .before .before .before .timer-request-of .ensures)))
+    (λ c. rw (c .answered .ensures, c .before .timer-intent-result-told .ensures, c .before .before .before .timer-intent .ensures, c .before .before .before .before .next-of .ensures, c .before .before .before .before .before .machine-of .ensures, c .before .before .before .before .before .before .timer-request-of .ensures)) in
+    tie.close shown

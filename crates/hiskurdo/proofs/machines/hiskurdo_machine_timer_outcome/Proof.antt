@@ -6,8 +6,8 @@ use Rattle.hiskurdo.proofs.machines.hiskurdo_machine_timer_outcome.Tie 
 
 pub hiskurdo-machine-timer-outcome-spec : {M : Type 1} → statement M
 hiskurdo-machine-timer-outcome-spec =
-    tie.close
-    (tie.spec
+    let shown = tie.spec
     (λ c κs. search needs) (λ c κs. search needs) (λ c κs. search needs) (λ c κs. search needs)
     (λ c κs. search needs)
-    (λ c. rw (c .answered .ensures, c .before .timer-resolve-result-told .ensures, c .before .before .before .timer-outcome .ensures, c .before .before .before .before .next-of .ensures, c .before .before .before .before .before .machine-of .ensures)))
+    (λ c. rw (c .answered .ensures, c .before .timer-resolve-result-told .ensures, c .before .before .before .timer-outcome .ensures, c .before .before .before .before .next-of .ensures, c .before .before .before .before .before .machine-of .ensures)) in
+    tie.close shown

@@ -6,7 +6,7 @@ use Rattle.hiskurdo.proofs.machines.machine_numbers.Tie as tie
 
 pub machine-numbers-spec : {M : Type 1} → statement M
 machine-numbers-spec =
-    tie.close
-    (tie.spec
+    let shown = tie.spec
     (λ c κs. search needs) (λ c κs. search needs)
-    (λ c. rw (c .phase-numbers .ensures, c .before .cursor-numbers .ensures)))
+    (λ c. rw (c .phase-numbers .ensures, c .before .cursor-numbers .ensures)) in
+    tie.close shown

@@ -7,8 +7,8 @@ use Rattle.hiskurdo.proofs.machines.next_of.Tie as tie
 
 pub next-of-spec : {M : Type 1} → statement M
 next-of-spec =
-    tie.close
-    (tie.spec
+    let shown = tie.spec
     (λ c κs. search needs)
     (λ c. rw (eq-eqb _ _ (c .before .if1 .taken), c .record-of .ensures))
-    (λ c. rw (ne-eqb _ _ (c .if1 .left))))
+    (λ c. rw (ne-eqb _ _ (c .if1 .left))) in
+    tie.close shown

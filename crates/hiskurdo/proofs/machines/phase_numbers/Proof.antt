@@ -9,10 +9,10 @@ use Rattle.hiskurdo.proofs.machines.phase_numbers.Tie as tie
 
 pub phase-numbers-spec : {M : Type 1} → statement M
 phase-numbers-spec =
-    tie.close
-    (tie.spec
+    let shown = tie.spec
     (λ c. search needs) (λ c. search needs) (λ c. search needs) (λ c. search needs) (λ c κs. search needs)
     (λ c. by-arm (machineNumbersFor (c .before .before .args .cursor)) (c .enum-told .given .1) refl)
     (λ c. by-arm (machineNumbersFor (c .before .before .args .cursor)) (c .enum-told2 .given .1) refl)
     (λ c. by-arm (machineNumbersFor (c .before .before .args .cursor)) (c .enum-told3 .given .1) refl)
-    (λ c. by-arm (machineNumbersFor (c .before .before .before .before .args .cursor)) (c .before .before .phase .given .1) (rw (c .number .ensures))))
+    (λ c. by-arm (machineNumbersFor (c .before .before .before .before .args .cursor)) (c .before .before .phase .given .1) (rw (c .number .ensures))) in
+    tie.close shown

@@ -11,10 +11,10 @@ use Rattle.hiskurdo.proofs.machines.phase_of.Tie as tie
 
 pub phase-of-spec : {M : Type 1} → statement M
 phase-of-spec =
-    tie.close
-    (tie.spec
+    let shown = tie.spec
     (λ c κs. search needs)
     (λ c. by-arm (λ (phase : ℕ). phaseOf phase (c .before .args .divergence)) (c .match .keys1) refl)
     (λ c. by-arm (λ (phase : ℕ). phaseOf phase (c .before .args .divergence)) (c .match .keys2) refl)
     (λ c. by-arm (λ (phase : ℕ). phaseOf phase (c .before .args .divergence)) (c .match .keys3) refl)
-    (λ c. rw (ne-eqb _ 0 (c .before .match .rest .0 .0 .1), ne-eqb _ 1 (c .before .match .rest .0 .1), ne-eqb _ 2 (c .before .match .rest .1), c .divergence-of .ensures)))
+    (λ c. rw (ne-eqb _ 0 (c .before .match .rest .0 .0 .1), ne-eqb _ 1 (c .before .match .rest .0 .1), ne-eqb _ 2 (c .before .match .rest .1), c .divergence-of .ensures)) in
+    tie.close shown

@@ -6,7 +6,7 @@ use Rattle.hiskurdo.proofs.machines.timer_request_of.Tie as tie
 
 pub timer-request-of-spec : {M : Type 1} → statement M
 timer-request-of-spec =
-    tie.close
-    (tie.spec
+    let shown = tie.spec
     (λ c κs. search needs) (λ c κs. search needs)
-    (λ c. rw (c .capability-of .ensures, c .before .spec-of .ensures)))
+    (λ c. rw (c .capability-of .ensures, c .before .spec-of .ensures)) in
+    tie.close shown

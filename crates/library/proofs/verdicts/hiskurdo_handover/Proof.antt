@@ -9,10 +9,11 @@ use Rattle.library.proofs.verdicts.hiskurdo_handover.Tie as tie
 
 pub hiskurdo-handover-spec : {M : Type 1} → statement M
 hiskurdo-handover-spec =
-    tie.close
-    (tie.spec (λ c κs. search needs) (λ c. search needs) (λ c κs. search needs) (λ c. search needs) (λ c κs. search needs)
+    let shown = tie.spec
+    (λ c κs. search needs) (λ c. search needs) (λ c κs. search needs) (λ c. search needs) (λ c κs. search needs)
     (λ c. search needs) (λ c κs. search needs) (λ c. search needs)
     (λ c. by-arm handoverNumbers (sym (c .before .before .before .before .handover-case .ensures .0) ∙ c .before .before .body .given .1) (c .given .ensures))
     (λ c. by-arm handoverNumbers (sym (c .before .before .before .before .handover-case .ensures .0) ∙ c .before .before .body2 .given .1) (c .given2 .ensures))
     (λ c. by-arm handoverNumbers (sym (c .before .before .before .before .handover-case .ensures .0) ∙ c .before .before .body3 .given .1) (c .given3 .ensures))
-    (λ c. by-arm handoverNumbers (sym (c .before .before .before .handover-case .ensures .0) ∙ c .before .number .given .1) refl))
+    (λ c. by-arm handoverNumbers (sym (c .before .before .before .handover-case .ensures .0) ∙ c .before .number .given .1) refl) in
+    tie.close shown

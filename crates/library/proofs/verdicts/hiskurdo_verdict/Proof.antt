@@ -9,7 +9,7 @@ use Rattle.library.proofs.verdicts.hiskurdo_verdict.Tie as tie
 
 pub hiskurdo-verdict-spec : {M : Type 1} → statement M
 hiskurdo-verdict-spec =
-    tie.close
-    (tie.spec (λ c κs. search needs) (λ c. search needs) (λ c κs. search needs) (λ c. search needs)
+    let shown = tie.spec (λ c κs. search needs) (λ c. search needs) (λ c κs. search needs) (λ c. search needs)
     (λ c. by-arm verdictNumbers (sym (c .before .before .before .before .verdict .ensures .0) ∙ c .before .before .ending .given .1) (rw (c .ending-number .ensures)))
-    (λ c. by-arm verdictNumbers (sym (c .before .before .before .verdict .ensures .0) ∙ c .before .number .given .1) refl))
+    (λ c. by-arm verdictNumbers (sym (c .before .before .before .verdict .ensures .0) ∙ c .before .number .given .1) refl) in
+    tie.close shown

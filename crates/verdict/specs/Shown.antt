@@ -1,0 +1,40 @@
+-- 01's own lines, from the files' bytes to the printed text: two of the starred examples, and the worked pair.
+use Prim.Native.Nat.{ℕ}
+use Prim.Native.String.{String}
+use mathlib.Core.List.{List, [], _∷_, _++_}
+use lib.ListN.{replicate}
+use Rattle.lines.specs.Line.{lineOf}
+use Rattle.lines.specs.Words.{ascii}
+use Rattle.resume.specs.Verdict.{verdictRule}
+
+-- "`00*n` for n zero bytes"
+abbrev zeros : ℕ → List ℕ
+zeros n = replicate n 0
+
+-- "Journal of count 0"
+abbrev none : List ℕ
+none = 1 ∷ zeros 15
+
+-- "`RunStarted`": one entry of kind 1, no body
+abbrev started : List ℕ
+started = (1 ∷ 0 ∷ 1 ∷ zeros 13) ++ (1 ∷ zeros 23)
+
+-- "empty plan", for a board of either kind
+abbrev emptyPlan : ℕ → List ℕ
+emptyPlan capability = (2 ∷ 0 ∷ 0 ∷ 0 ∷ capability ∷ []) ++ zeros 11
+
+-- "Journal .. Plan .. Output: `ok open 0 2 3`"
+abbrev workedJournal : List ℕ
+workedJournal = (1 ∷ 0 ∷ 2 ∷ 0 ∷ 7 ∷ zeros 11) ++ (1 ∷ 0 ∷ 3 ∷ zeros 5) ++ (1 ∷ zeros 15) ++ (2 ∷ 0 ∷ 5 ∷ zeros 21)
+
+abbrev workedPlan : List ℕ
+workedPlan = (2 ∷ 0 ∷ 1 ∷ zeros 13) ++ (2 ∷ 0 ∷ 5 ∷ zeros 21)
+
+-- what is printed, and what 01 says
+abbrev pub shown : List (List ℕ × List ℕ)
+shown =
+    (lineOf (verdictRule none (emptyPlan 0)), ascii "ok unstarted 0 0 0\n") ∷
+    (lineOf (verdictRule none workedPlan), ascii "ok unstarted 0 0 0\n") ∷
+    (lineOf (verdictRule started (emptyPlan 0)), ascii "ok done 0 1 1\n") ∷
+    (lineOf (verdictRule started (emptyPlan 1)), ascii "ok done 0 1 1\n") ∷
+    (lineOf (verdictRule workedJournal workedPlan), ascii "ok open 0 2 3\n") ∷ []

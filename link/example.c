@@ -1,0 +1,87 @@
+/* Reads run.jnl and run.pln of a folder: the journal's records, the verdict, and the input that is handed over at the stop.
+ * Status 0: the verdict accepts; 1: it refuses; 2: no folder was given. */
+#include <inttypes.h>
+#include <stdbool.h>
+#include <stdio.h>
+
+#include "hiskurdo.h"
+
+/* One byte more than a file may have, so that a longer one is seen to be. */
+enum { ROOM = 32769 };
+
+typedef struct {
+    uint8_t bytes[ROOM];
+    size_t len;
+} File;
+
+static bool load(File *file, const char *folder, const char *name) {
+    char path[4096];
+    int length = snprintf(path, sizeof path, "%s/%s", folder, name);
+    if (length < 0 || (size_t)length >= sizeof path) return false;
+    FILE *stream = fopen(path, "rb");
+    if (stream == NULL) return false;
+    file->len = fread(file->bytes, 1, ROOM, stream);
+    bool whole = !ferror(stream);
+    fclose(stream);
+    return whole;
+}
+
+/* A file that cannot be read counts as one of 0 bytes. */
+static void load_or_say(File *file, const char *folder, const char *name) {
+    if (load(file, folder, name)) return;
+    file->len = 0;
+    fprintf(stderr, "%s/%s cannot be read and counts as 0 bytes\n", folder, name);
+}
+
+static void print_records(const File *journal) {
+    HiskurdoReadNumbers read = hiskurdo_read_journal(journal->bytes, journal->len);
+    if (read.number != 0) {
+        printf("journal: refused, number %" PRIu64 ", place %" PRIu64 "\n", read.number, read.place);
+        return;
+    }
+    printf("journal: run %" PRIu64 ", records %" PRIu64 "\n", read.head, read.count);
+    HiskurdoEntryNumbers at = hiskurdo_next_record(journal->bytes, journal->len, 0, 16 + 24 * read.count);
+    while (at.kind != 0) {
+        printf("record %" PRIu64 ": kind %" PRIu64 ", number %" PRIu64 ", body %" PRIu64 "\n", at.next_entry - 1, at.kind,
+               at.s, at.len);
+        at = hiskurdo_next_record(journal->bytes, journal->len, at.next_entry, at.next_body);
+    }
+}
+
+/* Whether the verdict accepts. */
+static bool print_verdict(HiskurdoVerdictNumbers verdict) {
+    if (verdict.refused != 0) {
+        printf("verdict: refused, number %" PRIu64 ", place %" PRIu64 ", divergence %" PRIu64 ", calls %" PRIu64 "\n",
+               verdict.a, verdict.b, verdict.c, verdict.d);
+        return false;
+    }
+    static const char *const endings[] = {"unstarted", "due", "done", "open", "finished"};
+    printf("verdict: %s, stop %" PRIu64 ", records %" PRIu64 ", calls %" PRIu64 "\n", endings[verdict.a], verdict.b,
+           verdict.c, verdict.d);
+    return true;
+}
+
+static void print_input(const File *journal, const File *plan, uint64_t stop) {
+    HiskurdoHandoverNumbers given = hiskurdo_handover(journal->bytes, journal->len, plan->bytes, plan->len, stop);
+    if (given.number != 0) {
+        printf("handover: none at step %" PRIu64 ", number %" PRIu64 "\n", stop, given.number);
+        return;
+    }
+    printf("handover: input of step %" PRIu64 ", %" PRIu64 " bytes from byte %" PRIu64 " of the plan\n", stop, given.len,
+           given.start);
+}
+
+int main(int argc, char **argv) {
+    static File journal, plan;
+    if (argc != 2) {
+        fprintf(stderr, "usage: example FOLDER (with run.jnl and run.pln)\n");
+        return 2;
+    }
+    load_or_say(&journal, argv[1], "run.jnl");
+    load_or_say(&plan, argv[1], "run.pln");
+    print_records(&journal);
+    HiskurdoVerdictNumbers verdict = hiskurdo_verdict(journal.bytes, journal.len, plan.bytes, plan.len);
+    if (!print_verdict(verdict)) return 1;
+    if (verdict.a == 1 || verdict.a == 3) print_input(&journal, &plan, verdict.b);
+    return 0;
+}
