@@ -140,7 +140,8 @@ pub fn next(format: Format, file: &[u8], entry: u64, body: u64) -> EntryNumbers 
 }
 
 fn found(format: Format, file: &[u8], entry: u64, body: u64) -> Option<EntryNumbers> {
-    if entry >= reader::MOST_ENTRIES as u64 {
+    let count = u16::from_le_bytes(*file.get(2..)?.first_chunk()?);
+    if entry >= count.into() {
         return None;
     }
     let at = reader::HEADER + reader::ENTRY * entry as usize;
