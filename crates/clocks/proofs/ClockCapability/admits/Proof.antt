@@ -10,12 +10,17 @@ use Rattle.clocks.proofs.Laws.{admits-boot}
 use Rattle.clocks.proofs.ClockCapability.admits.Statement.{statement}
 use Rattle.clocks.proofs.ClockCapability.admits.Tie as tie
 
+returns : tie.Need-returns
+returns c = by-arm (admission (c .before .before .args .self)) (c .enum-told .given .1) (rw (admits-boot (c .before .before .args .self)))
+
+returns-2 : tie.Need-returns-2
+returns-2 c = by-arm (λ (capability : ClockCapability). admission capability (c .before .before .before .before .args .spec)) (c .enum-told3 .given .1)
+    (by-arm (admission ClockCapability.BootOnly) (c .before .before .enum-told2 .given .1) refl)
+
+returns-3 : tie.Need-returns-3
+returns-3 c = by-arm (λ (capability : ClockCapability). admission capability (c .before .before .before .before .args .spec)) (c .enum-told4 .given .1) refl
+
 pub admits-spec : {M : Type 1} → statement M
 admits-spec =
-    let shown = tie.spec
-    (λ c. search needs) (λ c. search needs) (λ c. search needs) (λ c. search needs)
-    (λ c. by-arm (admission (c .before .before .args .self)) (c .enum-told .given .1) (rw (admits-boot (c .before .before .args .self))))
-    (λ c. by-arm (λ (capability : ClockCapability). admission capability (c .before .before .before .before .args .spec)) (c .enum-told3 .given .1)
-    (by-arm (admission ClockCapability.BootOnly) (c .before .before .enum-told2 .given .1) refl))
-    (λ c. by-arm (λ (capability : ClockCapability). admission capability (c .before .before .before .before .args .spec)) (c .enum-told4 .given .1) refl) in
-    tie.close shown
+    tie.close
+    (tie.spec (λ c. search needs) (λ c. search needs) (λ c. search needs) (λ c. search needs) returns returns-2 returns-3)

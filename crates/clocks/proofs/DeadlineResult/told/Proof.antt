@@ -6,12 +6,17 @@ use Rattle.clocks.specs.Told.{deadlineTold, deadlineResultTold}
 use Rattle.clocks.proofs.DeadlineResult.told.Statement.{statement}
 use Rattle.clocks.proofs.DeadlineResult.told.Tie as tie
 
+returns : tie.Need-returns
+returns c = by-arm deadlineResultTold (c .before .before .before .before .self .given .1) (by-arm deadlineTold (c .before .enum-told .given .1) (c .new .ensures))
+
+returns-2 : tie.Need-returns-2
+returns-2 c = by-arm deadlineResultTold (c .before .before .before .before .before .self .given .1) (by-arm deadlineTold (c .before .before .deadline .given .1) (c .new2 .ensures))
+
+returns-3 : tie.Need-returns-3
+returns-3 c = by-arm deadlineResultTold (c .before .before .self2 .given .1) (c .told .ensures)
+
 pub told-spec : {M : Type 1} → statement M
 told-spec =
-    let shown = tie.spec
-    (λ c. search needs) (λ c. search needs) (λ c κs. search needs) (λ c. search needs) (λ c κs. search needs)
-    (λ c. search needs) (λ c κs. search needs)
-    (λ c. by-arm deadlineResultTold (c .before .before .before .before .self .given .1) (by-arm deadlineTold (c .before .enum-told .given .1) (c .new .ensures)))
-    (λ c. by-arm deadlineResultTold (c .before .before .before .before .before .self .given .1) (by-arm deadlineTold (c .before .before .deadline .given .1) (c .new2 .ensures)))
-    (λ c. by-arm deadlineResultTold (c .before .before .self2 .given .1) (c .told .ensures)) in
-    tie.close shown
+    tie.close
+    (tie.spec (λ c. search needs) (λ c. search needs) (λ c κs. search needs) (λ c. search needs) (λ c κs. search needs)
+    (λ c. search needs) (λ c κs. search needs) returns returns-2 returns-3)

@@ -11,11 +11,17 @@ use Rattle.clocks.specs.Timers.{lackingOf, reachedBy}
 use Rattle.clocks.proofs.Timer.evaluate.Statement.{statement}
 use Rattle.clocks.proofs.Timer.evaluate.Tie as tie
 
+returns : tie.Need-returns
+returns c = rw (lt-ltb _ _ (c .if1 .taken))
+
+returns-2 : tie.Need-returns-2
+returns-2 c = rw (le-ltb _ _ (c .before .before .before .before .if1 .left)) (by-arm (λ (spec : TimerSpec). DeadlineResult.Ok (lackingOf (specDeadline spec) (reachedBy spec (c .before .before .before .before .before .args .self .«armed_at») (c .before .before .before .before .before .args .reading)))) (c .before .before .spec .given .1) (ap DeadlineResult.Ok (c .lacking .ensures)))
+
+returns-3 : tie.Need-returns-3
+returns-3 c = rw (le-ltb _ _ (c .before .before .before .before .if1 .left)) (by-arm (λ (spec : TimerSpec). DeadlineResult.Ok (lackingOf (specDeadline spec) (reachedBy spec (c .before .before .before .before .before .args .self .«armed_at») (c .before .before .before .before .before .args .reading)))) (c .before .before .spec2 .given .1) (ap DeadlineResult.Ok (c .lacking2 .ensures)))
+
 pub evaluate-spec : {M : Type 1} → statement M
 evaluate-spec =
-    let shown = tie.spec
-    (λ c. rw (lt-ltb _ _ (c .if1 .taken)))
-    (λ c. search needs) (λ c κs. search needs) (λ c. search needs) (λ c κs. search needs)
-    (λ c. rw (le-ltb _ _ (c .before .before .before .before .if1 .left)) (by-arm (λ (spec : TimerSpec). DeadlineResult.Ok (lackingOf (specDeadline spec) (reachedBy spec (c .before .before .before .before .before .args .self .«armed_at») (c .before .before .before .before .before .args .reading)))) (c .before .before .spec .given .1) (ap DeadlineResult.Ok (c .lacking .ensures))))
-    (λ c. rw (le-ltb _ _ (c .before .before .before .before .if1 .left)) (by-arm (λ (spec : TimerSpec). DeadlineResult.Ok (lackingOf (specDeadline spec) (reachedBy spec (c .before .before .before .before .before .args .self .«armed_at») (c .before .before .before .before .before .args .reading)))) (c .before .before .spec2 .given .1) (ap DeadlineResult.Ok (c .lacking2 .ensures)))) in
-    tie.close shown
+    tie.close
+    (tie.spec returns (λ c. search needs) (λ c κs. search needs) (λ c. search needs) (λ c κs. search needs) returns-2
+    returns-3)
