@@ -28,11 +28,11 @@ row number detail words = record { number = number; detail = detail; words = wor
 
 abbrev pub table : List Row
 table =
-    row 0 0 "Not started: no step has begun" ∷
+    row 0 0 "Nothing to resume: the run was never started" ∷
     row 0 1 "Start step #" ∷
     row 0 2 "Nothing left to do: every step is done" ∷
-    row 0 3 "Deliver step # again: it was begun and has no outcome" ∷
-    row 0 4 "The run ended; steps done: #" ∷
+    row 0 3 "Deliver step # again (a timer: arm it again): it was begun and has no outcome" ∷
+    row 0 4 "The run ended; steps with an outcome: #" ∷
     row 1 0 "Journal: missing, unreadable or under 16 bytes" ∷
     row 2 0 "Journal: over 32,768 bytes" ∷
     row 3 0 "Journal: not a journal file" ∷
@@ -45,7 +45,7 @@ table =
     row 12 0 "Plan: over 32,768 bytes" ∷
     row 13 0 "Plan: not a plan file" ∷
     row 14 0 "Plan: more than 1,024 steps" ∷
-    row 15 0 "Plan: the board's clocks are not named by 0 or 1" ∷
+    row 15 0 "Plan: it does not say which clocks the board has" ∷
     row 16 0 "Plan: cut short or grown, its length is not what its header says" ∷
     row 17 0 "Plan: entry # is neither an effect nor a timer" ∷
     row 18 0 "Plan: entry # has a field that a plan may not have" ∷
@@ -53,13 +53,13 @@ table =
     row 22 1 "Steps carry consecutive numbers: record # has another number (a dispense lost or doubled)" ∷
     row 22 2 "Each step matches the plan: record # has another activity" ∷
     row 22 3 "Each step matches the plan: record # has another input, by its length or CRC" ∷
-    row 22 4 "Each step matches the plan: record # is of another kind than the step" ∷
+    row 22 4 "Each step matches the plan: record # is of another kind (or a step before it was lost or doubled)" ∷
     row 22 6 "Each step matches the plan: record # has another clock or deadline" ∷
     row 23 0 "Recorded timers fit this board's clocks: the timer of record # does not" ∷
     row 24 0 "First record opens the run: record # does not (a file from another stage)" ∷
     row 24 1 "Steps carry consecutive numbers: record # cannot follow the one before it (lost or doubled)" ∷
     row 24 2 "An open step is never shown as done: record # is not the outcome of the step opened before it" ∷
-    row 25 0 "Recorded timers fit this board's clocks: the timer due at record # does not" ∷
+    row 25 0 "Recorded timers fit this board's clocks: the next step's timer, due at record #, does not" ∷
     row 31 0 "Each step matches the plan: record # opens a step beyond the plan's last" ∷ []
 
 abbrev pub otherWords : String

@@ -113,11 +113,11 @@ fn said(number: u64, detail: u64, n: u64) -> Line
 {
     worded(
         b"\
-        00 0 Not started: no step has begun\n\
+        00 0 Nothing to resume: the run was never started\n\
         00 1 Start step #\n\
         00 2 Nothing left to do: every step is done\n\
-        00 3 Deliver step # again: it was begun and has no outcome\n\
-        00 4 The run ended; steps done: #\n\
+        00 3 Deliver step # again (a timer: arm it again): it was begun and has no outcome\n\
+        00 4 The run ended; steps with an outcome: #\n\
         01 0 Journal: missing, unreadable or under 16 bytes\n\
         02 0 Journal: over 32,768 bytes\n\
         03 0 Journal: not a journal file\n\
@@ -130,7 +130,7 @@ fn said(number: u64, detail: u64, n: u64) -> Line
         12 0 Plan: over 32,768 bytes\n\
         13 0 Plan: not a plan file\n\
         14 0 Plan: more than 1,024 steps\n\
-        15 0 Plan: the board's clocks are not named by 0 or 1\n\
+        15 0 Plan: it does not say which clocks the board has\n\
         16 0 Plan: cut short or grown, its length is not what its header says\n\
         17 0 Plan: entry # is neither an effect nor a timer\n\
         18 0 Plan: entry # has a field that a plan may not have\n\
@@ -138,13 +138,13 @@ fn said(number: u64, detail: u64, n: u64) -> Line
         22 1 Steps carry consecutive numbers: record # has another number (a dispense lost or doubled)\n\
         22 2 Each step matches the plan: record # has another activity\n\
         22 3 Each step matches the plan: record # has another input, by its length or CRC\n\
-        22 4 Each step matches the plan: record # is of another kind than the step\n\
+        22 4 Each step matches the plan: record # is of another kind (or a step before it was lost or doubled)\n\
         22 6 Each step matches the plan: record # has another clock or deadline\n\
         23 0 Recorded timers fit this board's clocks: the timer of record # does not\n\
         24 0 First record opens the run: record # does not (a file from another stage)\n\
         24 1 Steps carry consecutive numbers: record # cannot follow the one before it (lost or doubled)\n\
         24 2 An open step is never shown as done: record # is not the outcome of the step opened before it\n\
-        25 0 Recorded timers fit this board's clocks: the timer due at record # does not\n\
+        25 0 Recorded timers fit this board's clocks: the next step's timer, due at record #, does not\n\
         31 0 Each step matches the plan: record # opens a step beyond the plan's last\n\
         ",
         number,
