@@ -2,13 +2,12 @@
 use Prim.Native.Nat.{ℕ}
 use Prim.Native.Char.{code}
 use Prim.Native.String.{String, [] as «end», _∷_ as _then_}
-use mathlib.Core.Bool.{Bool, true, false, cond, _&&_}
+use mathlib.Core.Bool.{Bool, cond, _&&_}
 use mathlib.Core.List.{List, [], _∷_, _++_}
 use lib.Dec.{eqb}
 use Rattle.histories.specs.declared.Answer.{Answer}
 use Rattle.histories.specs.declared.Answer.the-variants as Answer
-use Rattle.histories.specs.declared.Ending.{Ending}
-use Rattle.histories.specs.declared.Ending.the-variants as Ending
+use Rattle.histories.specs.Handover.{stillToRun}
 use Rattle.histories.specs.Told.{endingNumber}
 use Rattle.lines.specs.Line.{decimal}
 
@@ -92,14 +91,7 @@ wordsOf (Answer.Ok ending stop records calls) opened = filled stop (ascii (words
 wordsOf (Answer.No number place divergence calls) opened =
     filled place (ascii (wordsIn table number (detailOf number place divergence opened)))
 
--- may the run be resumed, and at which step
-abbrev pub goesOn : Ending → Bool
-goesOn Ending.Unstarted = false
-goesOn Ending.Due = true
-goesOn Ending.Done = false
-goesOn Ending.Open = true
-goesOn Ending.Finished = false
-
+-- may the run be resumed, and at which step: where one is still to run
 unfoldable pub resumeOf : Answer → List ℕ
-resumeOf (Answer.Ok ending stop records calls) = filled stop (ascii (cond (goesOn ending) "yes, step #" "no"))
+resumeOf (Answer.Ok ending stop records calls) = filled stop (ascii (cond (stillToRun ending) "yes, step #" "no"))
 resumeOf (Answer.No number place divergence calls) = ascii "no"

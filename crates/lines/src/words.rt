@@ -3,10 +3,11 @@ ghost use mathlib.Core.Path.{_≡_};
 ghost use mathlib.Core.Bool.{cond};
 ghost use Prim.Native.Nat.{_+_, _≤_, _<_};
 ghost use lib.ListN.{length, drop};
+ghost use Rattle.histories.specs.Handover.{stillToRun};
 ghost use Rattle.histories.specs.Told.{endingNumber};
 ghost use Rattle.lines.specs.Line.{Holds};
 ghost use Rattle.lines.specs.Writing.{written};
-ghost use Rattle.lines.specs.Words.{table, wordsIn, ascii, filled, shown, detailOf, wordsOf, goesOn, resumeOf};
+ghost use Rattle.lines.specs.Words.{table, wordsIn, ascii, filled, shown, detailOf, wordsOf, resumeOf};
 ghost use Rattle.lines.specs.Rows.{coded, afterLine, ofLine, keyed, wordsAt};
 use crate::Line;
 use histories::Answer;
@@ -218,7 +219,7 @@ pub fn resume_of(answer: Answer) -> Line
 }
 
 fn resumed(ending: Ending, stop: u64) -> Line
-    ensures { λ r. ⌜ Holds r (filled stop (ascii (cond (goesOn ending) "yes, step #" "no"))) ⌝ }
+    ensures { λ r. ⌜ Holds r (filled stop (ascii (cond (stillToRun ending) "yes, step #" "no"))) ⌝ }
 {
     if goes_on(ending) {
         fill(b"yes, step #", stop)
@@ -228,7 +229,7 @@ fn resumed(ending: Ending, stop: u64) -> Line
 }
 
 fn goes_on(ending: Ending) -> bool
-    ensures { λ r. ⌜ r ≡ goesOn ending ⌝ }
+    ensures { λ r. ⌜ r ≡ stillToRun ending ⌝ }
 {
     match ending {
         Ending::Unstarted => false,
