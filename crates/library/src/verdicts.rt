@@ -1,11 +1,9 @@
 // The verdict and the handover, for Rust or C.
 ghost use mathlib.Core.Path.{_≡_};
-ghost use Rattle.histories.specs.Told.{endingNumber};
 ghost use Rattle.resume.specs.Verdict.{verdictRule};
 ghost use Rattle.resume.specs.Handing.{handedRule};
 ghost use Rattle.library.specs.VerdictNumbers.{verdictNumbers, givenNumbers, handoverNumbers};
 use histories::Answer;
-use histories::Ending;
 use histories::Handed;
 use records::Body;
 use resume::handing;
@@ -31,18 +29,6 @@ pub struct HandoverNumbers {
     pub len: u64,
 }
 
-fn ending_number(ending: Ending) -> u64
-    ensures { λ r. ⌜ r ≡ endingNumber ending ⌝ }
-{
-    match ending {
-        Ending::Unstarted => 0,
-        Ending::Due => 1,
-        Ending::Done => 2,
-        Ending::Open => 3,
-        Ending::Finished => 4,
-    }
-}
-
 #[no_mangle]
 pub extern "C" fn hiskurdo_verdict(journal: &[u8], plan: &[u8]) -> VerdictNumbers
     ensures { λ r. ⌜ r ≡ verdictNumbers (verdictRule (now (journal .entry)) (now (plan .entry))) ⌝ }
@@ -55,7 +41,7 @@ pub extern "C" fn hiskurdo_verdict(journal: &[u8], plan: &[u8]) -> VerdictNumber
             calls,
         } => VerdictNumbers {
             refused: 0,
-            a: ending_number(ending),
+            a: ending.number(),
             b: stop,
             c: records,
             d: calls,

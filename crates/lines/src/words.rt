@@ -4,7 +4,6 @@ ghost use mathlib.Core.Bool.{cond};
 ghost use Prim.Native.Nat.{_+_, _≤_, _<_};
 ghost use lib.ListN.{length, drop};
 ghost use Rattle.histories.specs.Handover.{stillToRun};
-ghost use Rattle.histories.specs.Told.{endingNumber};
 ghost use Rattle.lines.specs.Line.{Holds};
 ghost use Rattle.lines.specs.Writing.{written};
 ghost use Rattle.lines.specs.Words.{table, wordsIn, ascii, filled, shown, detailOf, wordsOf, resumeOf};
@@ -154,18 +153,6 @@ fn said(number: u64, detail: u64, n: u64) -> Line
     )
 }
 
-fn ending_number(ending: Ending) -> u64
-    ensures { λ r. ⌜ r ≡ endingNumber ending ⌝ }
-{
-    match ending {
-        Ending::Unstarted => 0,
-        Ending::Due => 1,
-        Ending::Done => 2,
-        Ending::Open => 3,
-        Ending::Finished => 4,
-    }
-}
-
 fn detail_of(number: u64, place: u64, divergence: u64, opened: bool) -> u64
     ensures { λ r. ⌜ r ≡ detailOf number place divergence opened ⌝ }
 {
@@ -188,7 +175,7 @@ pub fn words_of(answer: Answer, opened: bool) -> Line
             stop,
             records,
             calls,
-        } => said(0, ending_number(ending), stop),
+        } => said(0, ending.number(), stop),
         Answer::No {
             number,
             place,
@@ -221,21 +208,9 @@ pub fn resume_of(answer: Answer) -> Line
 fn resumed(ending: Ending, stop: u64) -> Line
     ensures { λ r. ⌜ Holds r (filled stop (ascii (cond (stillToRun ending) "yes, step #" "no"))) ⌝ }
 {
-    if goes_on(ending) {
+    if ending.still_to_run() {
         fill(b"yes, step #", stop)
     } else {
         fill(b"no", stop)
-    }
-}
-
-fn goes_on(ending: Ending) -> bool
-    ensures { λ r. ⌜ r ≡ stillToRun ending ⌝ }
-{
-    match ending {
-        Ending::Unstarted => false,
-        Ending::Due => true,
-        Ending::Done => false,
-        Ending::Open => true,
-        Ending::Finished => false,
     }
 }

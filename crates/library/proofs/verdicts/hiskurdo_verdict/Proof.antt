@@ -10,6 +10,6 @@ use Rattle.library.proofs.verdicts.hiskurdo_verdict.Tie as tie
 pub hiskurdo-verdict-spec : {M : Type 1} → statement M
 hiskurdo-verdict-spec =
     let shown = tie.spec (λ c κs. search needs) (λ c. search needs) (λ c κs. search needs) (λ c. search needs)
-    (λ c. by-arm verdictNumbers (sym (c .before .before .before .before .verdict .ensures .0) ∙ c .before .before .ending .given .1) (rw (c .ending-number .ensures)))
-    (λ c. by-arm verdictNumbers (sym (c .before .before .before .verdict .ensures .0) ∙ c .before .number .given .1) refl) in
+    (λ c. by-arm verdictNumbers (sym (c .before .before .before .before .verdict .ensures .0) ∙ c .before .before .ending .given .1) (rw (c .number .ensures)))
+    (λ c. by-arm verdictNumbers (sym (c .before .before .before .verdict .ensures .0) ∙ c .before .number2 .given .1) refl) in
     tie.close shown

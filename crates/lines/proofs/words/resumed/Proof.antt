@@ -14,10 +14,10 @@ yes-fit : (n : ℕ) → n < 18446744073709551616 → length (filled n (ascii "ye
 yes-fit n h = fits n (ascii "yes, step #") h refl
 
 returns : tie.Need-returns
-returns c = rw (sym (c .before .before .before .goes-on .ensures) ∙ c .before .before .if1 .taken) (c .fill .ensures)
+returns c = rw (sym (c .before .before .before .still-to-run .ensures) ∙ c .before .before .if1 .taken) (c .fill .ensures)
 
 returns-2 : tie.Need-returns-2
-returns-2 c = rw (sym (c .before .before .before .goes-on .ensures) ∙ c .before .before .if1 .left) (c .fill2 .ensures)
+returns-2 c = rw (sym (c .before .before .before .still-to-run .ensures) ∙ c .before .before .if1 .left) (c .fill2 .ensures)
 
 pub resumed-spec : {M : Type 1} → statement M
 resumed-spec =
