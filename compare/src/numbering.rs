@@ -4,15 +4,17 @@
 
 use std::thread;
 
+use waymaker_core::{EffectSeq, GateId, RecordRef};
+
 use crate::calls::{Answer, Call, NextNumbers};
-use crate::ffi::{RecordNumbers, RequestNumbers, SpecNumbers, Told};
-use crate::rust_side::RustSide;
+use crate::ffi::{RecordNumbers, RequestNumbers, SpecNumbers};
+use crate::rust_side::{RustSide, record_of};
 
 const RUN: u64 = 7;
 
 pub fn say() {
-    let cursors = thread::spawn(|| walked(Call::NewCursor { run: RUN }, RustSide::advance));
-    let (machine, markers) = walked(Call::NewMachine { run: RUN }, RustSide::machine_advance);
+    let cursors = thread::spawn(|| walked(Call::NewCursor { run: RUN }, RustSide::marks));
+    let (machine, markers) = walked(Call::NewMachine { run: RUN }, RustSide::machine_marks);
     let (cursor, _) = cursors.join().expect("the cursor's walk ends");
     println!("markers accepted {markers}");
     println!("cursor: {}", readers(&cursor));
@@ -33,13 +35,18 @@ pub fn say() {
 }
 
 /// A fresh one, the start, and a marker for each number as long as they are accepted.
-fn walked(fresh: Call, advance: fn(&mut RustSide, &RecordNumbers) -> Told) -> (RustSide, u64) {
+fn walked(fresh: Call, marks: impl Fn(&mut RustSide, RecordRef) -> bool) -> (RustSide, u64) {
     let mut side = RustSide::new();
     side.answer(&fresh);
-    advance(&mut side, &start());
+    marks(&mut side, record_of(&start()));
     let mut markers = 0;
     for number in 0..=u32::MAX {
-        if advance(&mut side, &marker(number)).number != 9 {
+        let record = RecordRef::VersionMarker {
+            seq: EffectSeq(number),
+            gate: GateId(1),
+            version: 1,
+        };
+        if !marks(&mut side, record) {
             break;
         }
         markers += 1;

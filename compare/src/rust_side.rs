@@ -101,6 +101,16 @@ impl RustSide {
         }
     }
 
+    /// Whether the cursor takes the record for a marker.
+    pub fn marks(&mut self, record: RecordRef) -> bool {
+        matches!(self.cursor.advance(record), Ok(Step::VersionMarker { .. }))
+    }
+
+    /// Whether the machine takes the record for a marker.
+    pub fn machine_marks(&mut self, record: RecordRef) -> bool {
+        matches!(self.machine.advance(record), Ok(Step::VersionMarker { .. }))
+    }
+
     pub fn read_cursor(&self) -> CursorRead {
         CursorRead {
             run: self.cursor.run().0,
