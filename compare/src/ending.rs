@@ -8,6 +8,7 @@ use crate::ffi::{RecordNumbers, Told};
 use crate::markers::{SLOW, Walked, marker, started, walk_to_slow};
 use crate::proved_side::ProvedSide;
 use crate::rust_side::RustSide;
+use crate::walk::walk;
 
 const RUN: u64 = 7;
 /// How deep every sequence of records is tried near the end and at the end.
@@ -23,10 +24,10 @@ pub fn run(_settings: &Settings, both: &mut Both) {
     for number in SLOW..u32::MAX {
         both.call(Call::Advance(marker(number)));
     }
-    exhaustive::walk(both, DEPTH);
+    walk(both, DEPTH, exhaustive::alphabet);
     both.call(Call::Advance(marker(u32::MAX)));
     at_the_end(both);
-    exhaustive::walk(both, DEPTH);
+    walk(both, DEPTH, exhaustive::alphabet);
     println!("{seconds}");
 }
 

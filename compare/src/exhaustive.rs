@@ -1,38 +1,25 @@
-//! Cursors, exhaustively: every sequence of records over an alphabet, up to a depth.
+//! Cursors, exhaustively: every sequence of records over an alphabet, up to a length.
 
 use crate::Settings;
 use crate::both::Both;
-use crate::calls::{Call, CursorRead};
+use crate::calls::Call;
 use crate::ffi::RecordNumbers;
 use crate::records::{has_number, right_number, wrong_numbers};
+use crate::rust_side::RustSide;
 use crate::values;
+use crate::walk::{walk, walk_each};
 
 pub fn run(settings: &Settings, both: &mut Both) {
     for run in values::RUNS {
         both.begin(Call::NewCursor { run });
-        walk(both, settings.depth);
-    }
-}
-
-/// Feeds every record of the alphabet to the current cursor, and from each place they
-/// lead to every sequence that is shorter by one.
-///
-/// A record that leaves both cursors just as they were is not followed: what comes after
-/// it is what comes after the cursor it found.
-pub fn walk(both: &mut Both, depth: u32) {
-    let here = both.here();
-    for record in alphabet(&both.rust.read_cursor()) {
-        both.call(Call::Advance(record));
-        if depth > 1 && both.moved_from(&here) {
-            walk(both, depth - 1);
-        }
-        both.back_to(&here);
+        walk_each(both, settings.short, alphabet);
+        walk(both, settings.depth, alphabet);
     }
 }
 
 /// All nine kinds: with the right number and varied fields, then with wrong numbers.
-fn alphabet(cursor: &CursorRead) -> Vec<RecordNumbers> {
-    let right = right_number(cursor);
+pub fn alphabet(rust: &RustSide) -> Vec<Call> {
+    let right = right_number(&rust.read_cursor());
     let wrong = wrong_numbers(right);
     let mut records = Vec::with_capacity(64);
     for shapes in SHAPES {
@@ -45,7 +32,7 @@ fn alphabet(cursor: &CursorRead) -> Vec<RecordNumbers> {
             records.extend(wrong.iter().map(|s| RecordNumbers { s: *s, ..shapes[0] }));
         }
     }
-    records
+    records.into_iter().map(Call::Advance).collect()
 }
 
 /// The fields that records are tried with, for each kind from 1 to 9.

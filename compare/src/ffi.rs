@@ -17,7 +17,7 @@ pub struct Told {
 
 /// An allocator: `offers` is 1 where `next` is offered, else 0.
 #[repr(C)]
-#[derive(Clone, Copy, PartialEq, Eq, Debug, Default)]
+#[derive(Clone, Copy, PartialEq, Eq, Hash, Debug, Default)]
 pub struct IdsNumbers {
     pub run: u64,
     pub next: u32,
@@ -55,7 +55,7 @@ pub struct RecordNumbers {
 
 /// A cursor. `position` counts the cases of `Position` from 0; the fields that a position does not hold are 0.
 #[repr(C)]
-#[derive(Clone, Copy, PartialEq, Eq, Debug, Default)]
+#[derive(Clone, Copy, PartialEq, Eq, Hash, Debug, Default)]
 pub struct CursorNumbers {
     pub ids: IdsNumbers,
     pub deadline: u64,
@@ -98,7 +98,7 @@ pub struct PendingNumbers {
 
 /// A machine: `phase` is 0 settled, 1 awaiting outcome, 2 awaiting firing, 3 diverged; `divergence` is 0 unless it has diverged.
 #[repr(C)]
-#[derive(Clone, Copy, PartialEq, Eq, Debug, Default)]
+#[derive(Clone, Copy, PartialEq, Eq, Hash, Debug, Default)]
 pub struct MachineNumbers {
     pub cursor: CursorNumbers,
     pub phase: u8,

@@ -9,6 +9,7 @@ use crate::proved_side::ProvedSide;
 use crate::records::plain;
 use crate::rust_side::RustSide;
 use crate::scripts;
+use crate::walk::walk;
 
 const RUN: u64 = 9;
 /// How deep every script is tried near the end and at the end.
@@ -29,10 +30,10 @@ pub fn run(_settings: &Settings, both: &mut Both) {
     for number in SLOW..u32::MAX {
         both.call(Call::MachineAdvance(marker(number)));
     }
-    scripts::walk(both, DEPTH);
+    walk(both, DEPTH, scripts::alphabet);
     both.call(Call::MachineAdvance(marker(u32::MAX)));
     at_the_end(both);
-    scripts::walk(both, DEPTH);
+    walk(both, DEPTH, scripts::alphabet);
     println!("{seconds}");
 }
 

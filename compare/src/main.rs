@@ -24,6 +24,7 @@ mod scripts;
 mod timers;
 mod values;
 mod vectors;
+mod walk;
 
 use std::process::ExitCode;
 use std::time::Instant;
@@ -34,10 +35,10 @@ const HELP: &str = "\
 Compares the proved code with the Rust source it was ported from, call by call.
 On the first difference: prints the calls and both answers, and exits with 1.
 
-compare                   all parts but the ends of numbering, two to three minutes
+compare                   all parts but the ends of numbering, some twenty seconds
 compare --deep            deeper and longer, and the ends of numbering; up to half an hour
-compare --depth N         the depth of the cursors' exhaustive part
-compare --script-depth N  the depth of the machines' exhaustive part
+compare --depth N         how long the sequences of the cursors' exhaustive part are
+compare --script-depth N  how long the scripts of the machines' exhaustive part are
 compare --seed N          the seed of the random parts
 compare --vectors FOLDER  only writes FOLDER/stdin and FOLDER/stdout: a fixed sample of
                           calls, and the answers of the Rust source
@@ -51,8 +52,12 @@ the folder with libhiskurdo.a; a relative one is taken from the root of the repo
 /// How much is compared.
 pub struct Settings {
     pub seed: u64,
+    /// The longest sequences and scripts that are walked, nothing twice from the same place.
     pub depth: u32,
     pub script_depth: u32,
+    /// The longest that are each made from their first call on.
+    pub short: u32,
+    pub script_short: u32,
     pub random_timers: u64,
     pub long_runs: u64,
     pub long_scripts: u64,
@@ -63,8 +68,10 @@ impl Settings {
     fn usual() -> Settings {
         Settings {
             seed: 1,
-            depth: 8,
-            script_depth: 10,
+            depth: 64,
+            script_depth: 48,
+            short: 4,
+            script_short: 3,
             random_timers: 4_000_000,
             long_runs: 2_000,
             long_scripts: 1_000,
@@ -75,8 +82,10 @@ impl Settings {
     fn deep() -> Settings {
         let usual = Settings::usual();
         Settings {
-            depth: usual.depth + 1,
-            script_depth: usual.script_depth + 1,
+            depth: 2 * usual.depth,
+            script_depth: 2 * usual.script_depth,
+            short: usual.short + 1,
+            script_short: usual.script_short + 1,
             random_timers: 20 * usual.random_timers,
             long_runs: 20 * usual.long_runs,
             long_scripts: 20 * usual.long_scripts,
@@ -98,9 +107,9 @@ const PARTS: [Part; 10] = [
     usual("timers", timers::run),
     usual("divergence", divergence::run),
     usual("the calls of --vectors", vectors::run),
-    usual("cursors, every short sequence", exhaustive::run),
+    usual("cursors, every sequence", exhaustive::run),
     usual("cursors, long sequences at random", long_runs::run),
-    usual("machines, every short script", scripts::run),
+    usual("machines, every script", scripts::run),
     usual("machines, long scripts at random", long_scripts::run),
     only_deep("cursors, the end of numbering", ending::run),
     only_deep("machines, the end of numbering", machine_ending::run),

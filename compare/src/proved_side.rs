@@ -3,7 +3,7 @@
 use crate::calls::{Answer, Call, CursorRead, IdsRead, MachineRead};
 use crate::ffi::*;
 
-#[derive(Clone, Copy, PartialEq)]
+#[derive(Clone, Copy, PartialEq, Eq, Hash)]
 pub struct ProvedSide {
     ids: IdsNumbers,
     cursor: CursorNumbers,

@@ -1,39 +1,25 @@
-//! Machines, exhaustively: every script of calls over an alphabet, up to a depth.
+//! Machines, exhaustively: every script of calls over an alphabet, up to a length.
 
 use crate::Settings;
-use crate::both::{Both, Place};
+use crate::both::Both;
 use crate::calls::{Call, NextNumbers};
 use crate::ffi::{RecordNumbers, RequestNumbers, SpecNumbers};
 use crate::records::{KINDS, has_number, plain};
+use crate::rust_side::RustSide;
 use crate::values;
+use crate::walk::{walk, walk_each};
 
 pub fn run(settings: &Settings, both: &mut Both) {
     for run in values::RUNS {
         both.begin(Call::NewMachine { run });
-        walk(both, settings.script_depth);
+        walk_each(both, settings.script_short, alphabet);
+        walk(both, settings.script_depth, alphabet);
     }
 }
 
-/// Makes every call of the alphabet on the current machine, and from each place they lead
-/// to every script that is shorter by one.
-///
-/// A call that leaves both sides just as they were, or as another call from here left
-/// them, is not followed: what comes after it is compared already.
-pub fn walk(both: &mut Both, depth: u32) {
-    let here = both.here();
-    let mut followed: Vec<Place> = vec![both.here()];
-    for call in alphabet(both.rust.machine_number()) {
-        both.call(call);
-        if depth > 1 && followed.iter().all(|place| both.moved_from(place)) {
-            followed.push(both.here());
-            walk(both, depth - 1);
-        }
-        both.back_to(&here);
-    }
-}
-
-/// All five calls, where `right` is the number that is open or offered.
-fn alphabet(right: u32) -> Vec<Call> {
+/// All five calls, around the number that is open or offered.
+pub fn alphabet(rust: &RustSide) -> Vec<Call> {
+    let right = rust.machine_number();
     let mut calls = Vec::with_capacity(256);
     calls.extend(advances(right).into_iter().map(Call::MachineAdvance));
     intents(&mut calls, right);

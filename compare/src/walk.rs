@@ -1,0 +1,62 @@
+//! Every sequence of calls over an alphabet, from where both sides stand up to a length.
+
+use std::collections::HashMap;
+
+use crate::both::Both;
+use crate::calls::Call;
+use crate::proved_side::ProvedSide;
+use crate::rust_side::RustSide;
+
+/// The calls that are made where the Rust stands so.
+type Alphabet = fn(&RustSide) -> Vec<Call>;
+
+/// Every sequence of up to `depth` calls, each made from its first call on.
+pub fn walk_each(both: &mut Both, depth: u32, alphabet: Alphabet) {
+    if depth == 0 {
+        return;
+    }
+    let here = both.here();
+    for call in alphabet(&both.rust) {
+        both.call(call);
+        walk_each(both, depth - 1, alphabet);
+        both.back_to(&here);
+    }
+}
+
+/// Every sequence of up to `depth` calls, but nothing twice from the same place: what comes after a call depends on where
+/// it leaves both sides. Where they stand as they stood before, with as many calls still to come, it is compared already.
+pub fn walk(both: &mut Both, depth: u32, alphabet: Alphabet) {
+    let followed = HashMap::new();
+    Walk { alphabet, followed }.go(both, depth);
+}
+
+struct Walk {
+    alphabet: Alphabet,
+    /// Where both sides stood, and how many calls in a row were made from there.
+    followed: HashMap<ProvedSide, (RustSide, u32)>,
+}
+
+impl Walk {
+    fn go(&mut self, both: &mut Both, depth: u32) {
+        if depth == 0 || !self.is_new(both, depth) {
+            return;
+        }
+        let here = both.here();
+        for call in (self.alphabet)(&both.rust) {
+            both.call(call);
+            self.go(both, depth - 1);
+            both.back_to(&here);
+        }
+    }
+
+    /// Whether from here so many calls were not made yet; from now on they are.
+    fn is_new(&mut self, both: &Both, depth: u32) -> bool {
+        let before = self.followed.get(&both.proved);
+        if before.is_some_and(|(rust, calls)| *rust == both.rust && *calls >= depth) {
+            return false;
+        }
+        let here = (both.rust.copy(), depth);
+        self.followed.insert(both.proved, here);
+        true
+    }
+}
