@@ -42,12 +42,11 @@ fn walk() -> Walked {
     let mut markers: u64 = 0;
     while markers < 4294967296 {
         let advanced = machine.advance(marker(markers as u32));
+        machine = advanced.machine;
         let answer = advanced.answer;
         if let StepResult::Err(_) = answer {
             return Walked { machine, markers };
         }
-        let next = advanced.machine;
-        machine = next;
         markers += 1;
     }
     Walked { machine, markers }
