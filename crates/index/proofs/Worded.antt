@@ -18,9 +18,9 @@ use Rattle.files.specs.Contents.{recordsOf}
 use Rattle.files.proofs.Laws.{journal-number, plan-number}
 use Rattle.histories.specs.declared.Answer.{Answer}
 use Rattle.histories.specs.declared.Answer.the-variants as Answer
-use Rattle.histories.specs.declared.Ending.{Ending}
-use Rattle.histories.specs.declared.Ending.the-variants as Ending
-use Rattle.histories.specs.Told.{endingNumber}
+use Rattle.endings.specs.declared.Ending.{Ending}
+use Rattle.endings.specs.declared.Ending.the-variants as Ending
+use Rattle.endings.specs.Endings.{endingNumber}
 use Rattle.histories.specs.Promise.{Promise, RefusedCount, Counted}
 use Rattle.lines.specs.Words.{Row, table, isOf, detailOf}
 use Rattle.resume.specs.Verdict.{verdictBy, verdictRule, KeptBy, Kept}

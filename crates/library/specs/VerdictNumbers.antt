@@ -5,7 +5,7 @@ use Rattle.histories.specs.declared.Answer.{Answer}
 use Rattle.histories.specs.declared.Answer.the-variants as Answer
 use Rattle.histories.specs.declared.Handed.{Handed}
 use Rattle.histories.specs.declared.Handed.the-variants as Handed
-use Rattle.histories.specs.Told.{endingNumber}
+use Rattle.endings.specs.Endings.{endingNumber}
 use Rattle.library.specs.declared.verdicts.HandoverNumbers.{HandoverNumbers}
 use Rattle.library.specs.declared.verdicts.VerdictNumbers.{VerdictNumbers}
 

@@ -7,7 +7,7 @@ use native.Mathlib.Decide.{decLt}
 use native.Mathlib.Omega.{arith}
 use lib.ListN.{getD}
 use Rattle.histories.specs.declared.Answer.the-variants as Answer
-use Rattle.histories.specs.declared.Ending.the-variants as Ending
+use Rattle.endings.specs.declared.Ending.the-variants as Ending
 use Rattle.lines.specs.Line.{decimal, lineOf}
 use Rattle.lines.proofs.Decimal.{decimal-last, decimal-more}
 

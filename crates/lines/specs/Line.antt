@@ -7,7 +7,7 @@ use lib.Dec.{ltb}
 use lib.ListN.{length, replicate, take}
 use Rattle.histories.specs.declared.Answer.{Answer}
 use Rattle.histories.specs.declared.Answer.the-variants as Answer
-use Rattle.histories.specs.Told.{endingWord}
+use Rattle.endings.specs.Endings.{endingWord}
 use Rattle.lines.specs.declared.Line.{Line}
 
 -- a number's digits, at most so many: before the last one those of a tenth of it, where that is not 0

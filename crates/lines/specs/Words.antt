@@ -1,5 +1,4 @@
--- What an answer means in plain words: one table, with a row for each ending and each refusal that files can reach.
-use Prim.Native.Nat.{ℕ}
+-- What an answer means in plain words: one table, with a row for each ending and each refusal that files can reach.use Prim.Native.Nat.{ℕ}
 use Prim.Native.Char.{code}
 use Prim.Native.String.{String, [] as «end», _∷_ as _then_}
 use mathlib.Core.Bool.{Bool, cond, _&&_}
@@ -7,8 +6,7 @@ use mathlib.Core.List.{List, [], _∷_, _++_}
 use lib.Dec.{eqb}
 use Rattle.histories.specs.declared.Answer.{Answer}
 use Rattle.histories.specs.declared.Answer.the-variants as Answer
-use Rattle.histories.specs.Handover.{stillToRun}
-use Rattle.histories.specs.Told.{endingNumber}
+use Rattle.endings.specs.Endings.{endingNumber, stillToRun}
 use Rattle.lines.specs.Line.{decimal}
 
 -- a text in bytes

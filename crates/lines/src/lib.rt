@@ -8,11 +8,11 @@ ghost use mathlib.Core.Path.{_≡_};
 ghost use mathlib.Core.List.{[], _∷_, _++_};
 ghost use Prim.Native.Nat.{_+_, _≤_, _<_};
 ghost use lib.ListN.{length};
-ghost use Rattle.histories.specs.Told.{endingWord};
+ghost use Rattle.endings.specs.Endings.{endingWord};
 ghost use Rattle.lines.specs.Line.{decimal, spaced, lineOf, holding, Holds};
 ghost use Rattle.lines.specs.Writing.{pushed, written};
+use endings::Ending;
 use histories::Answer;
-use histories::Ending;
 
 // Bytes, of which the first `len` are the line.
 pub struct Line {

@@ -3,14 +3,14 @@ ghost use mathlib.Core.Path.{_≡_};
 ghost use mathlib.Core.Bool.{cond};
 ghost use Prim.Native.Nat.{_+_, _≤_, _<_};
 ghost use lib.ListN.{length, drop};
-ghost use Rattle.histories.specs.Handover.{stillToRun};
+ghost use Rattle.endings.specs.Endings.{stillToRun};
 ghost use Rattle.lines.specs.Line.{Holds};
 ghost use Rattle.lines.specs.Writing.{written};
 ghost use Rattle.lines.specs.Words.{table, wordsIn, ascii, filled, shown, detailOf, wordsOf, resumeOf};
 ghost use Rattle.lines.specs.Rows.{coded, afterLine, ofLine, keyed, wordsAt};
 use crate::Line;
+use endings::Ending;
 use histories::Answer;
-use histories::Ending;
 
 // Where the next line begins, or the end.
 fn next_line(text: &[u8], from: usize) -> usize

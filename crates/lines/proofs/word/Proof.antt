@@ -5,8 +5,8 @@ use Prim.Native.Nat.{_+_, _≤_}
 use mathlib.Core.Path.{_≡_}
 use native.Mathlib.Omega.{arith}
 use Rattle.errors.proofs.Arms.{by-arm}
-use Rattle.histories.specs.declared.Ending.{Ending}
-use Rattle.histories.specs.Told.{endingWord}
+use Rattle.endings.specs.declared.Ending.{Ending}
+use Rattle.endings.specs.Endings.{endingWord}
 use Rattle.lines.specs.declared.Line.{Line}
 use Rattle.lines.specs.Writing.{written}
 use Rattle.lines.proofs.word.Statement.{statement}
