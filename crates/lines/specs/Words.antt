@@ -1,4 +1,5 @@
--- What an answer means in plain words: one table, with a row for each ending and each refusal that files can reach.use Prim.Native.Nat.{ℕ}
+-- What an answer means in plain words: one table, with a row for each ending and each refusal that files can reach.
+use Prim.Native.Nat.{ℕ}
 use Prim.Native.Char.{code}
 use Prim.Native.String.{String, [] as «end», _∷_ as _then_}
 use mathlib.Core.Bool.{Bool, cond, _&&_}
