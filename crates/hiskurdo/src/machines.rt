@@ -29,6 +29,7 @@ use crate::CursorNumbers;
 use crate::RecordNumbers;
 use crate::SpecNumbers;
 use answers::machines as told;
+use clocks::ClockCapability;
 use cursor::PendingEffect;
 use errors::Told;
 use ids::ActivityKind;
@@ -233,7 +234,7 @@ fn timer_request_of(spec: SpecNumbers, capability: u8) -> TimerRequest
 {
     TimerRequest {
         spec: crate::spec_of(spec),
-        capability: crate::capability_of(capability),
+        capability: ClockCapability::of(capability as u64),
     }
 }
 
