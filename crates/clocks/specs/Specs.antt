@@ -25,10 +25,18 @@ recordedSpec kind deadline =
     cond (eqb (kind .0) 1) (TimerSpecOption.Some (TimerSpec.AfterBoot deadline))
     (cond (eqb (kind .0) 2) (TimerSpecOption.Some (TimerSpec.AtPersistentTime deadline)) TimerSpecOption.None)
 
+-- a step's or a caller's spec, by numbers: clock 1 is `AfterBoot`, any other `AtPersistentTime`
+abbrev pub specOf : ℕ → ℕ → TimerSpec
+specOf clock deadline = cond (eqb clock 1) (TimerSpec.AfterBoot deadline) (TimerSpec.AtPersistentTime deadline)
+
 -- "`rearmed_at`: the smaller of recorded and now for `AfterBoot`, the recorded one for the other"
 abbrev pub rearmedAt : TimerSpec → ℕ → ℕ → ℕ
 rearmedAt (TimerSpec.AfterBoot ticks) recorded now = min recorded now
 rearmedAt (TimerSpec.AtPersistentTime instant) recorded now = recorded
+
+-- a capability by its number: 0 is `BootOnly`, any other `Persistent`
+abbrev pub capabilityOf : ℕ → ClockCapability
+capabilityOf n = cond (eqb n 0) ClockCapability.BootOnly ClockCapability.Persistent
 
 -- "`BootOnly` admits only kind 1, `Persistent` both"
 abbrev pub admitsClock : ClockCapability → ClockKind → Bool

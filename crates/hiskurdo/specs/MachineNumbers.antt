@@ -3,6 +3,7 @@ use Prim.Native.Nat.{ℕ}
 use mathlib.Core.Bool.{cond}
 use lib.Dec.{eqb}
 use Rattle.errors.specs.declared.Told.{Told}
+use Rattle.clocks.specs.Specs.{capabilityOf}
 use Rattle.cursor.specs.declared.PendingEffect.{PendingEffect}
 use Rattle.machine.specs.declared.Divergence.{Divergence}
 use Rattle.machine.specs.declared.Divergence.the-variants as Divergence
@@ -21,7 +22,7 @@ use Rattle.hiskurdo.specs.declared.machines.RequestNumbers.{RequestNumbe
 use Rattle.hiskurdo.specs.declared.machines.PendingNumbers.{PendingNumbers}
 use Rattle.hiskurdo.specs.declared.machines.MachineNumbers.{MachineNumbers}
 use Rattle.hiskurdo.specs.declared.machines.MachineAnswered.{MachineAnswered}
-use Rattle.hiskurdo.specs.Numbers.{specOf, capabilityOf, recordOf, cursorOf, cursorNumbers}
+use Rattle.hiskurdo.specs.Numbers.{specOf, recordOf, cursorOf, cursorNumbers}
 
 abbrev pub requestOf : RequestNumbers → EffectRequest
 requestOf n = record { kind = record { 0 = n .kind }; «input_len» = n .«input_len»; «input_crc» = n .«input_crc» }

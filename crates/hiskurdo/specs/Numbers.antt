@@ -1,5 +1,5 @@
 -- The boundary to C and Rust: values as plain numbers, both ways.
-use Prim.Native.Nat.{ℕ, _%_}
+use Prim.Native.Nat.{ℕ}
 use mathlib.Core.Bool.{cond}
 use lib.Dec.{eqb}
 use Rattle.errors.specs.declared.KernelError.{KernelError}
@@ -11,11 +11,9 @@ use Rattle.ids.specs.declared.EffectIdAllocator.{EffectIdAllocator}
 use Rattle.ids.specs.declared.Allocated.{Allocated}
 use Rattle.ids.specs.Told.{effectIdResultTold}
 use Rattle.clocks.specs.declared.TimerSpec.{TimerSpec}
-use Rattle.clocks.specs.declared.TimerSpec.the-variants as TimerSpec
-use Rattle.clocks.specs.declared.ClockCapability.{ClockCapability}
-use Rattle.clocks.specs.declared.ClockCapability.the-variants as ClockCapability
+use Rattle.clocks.specs.Specs as Specs
 use Rattle.records.specs.declared.RecordRef.{RecordRef}
-use Rattle.records.specs.declared.RecordRef.the-variants as RecordRef
+use Rattle.records.specs.Fields.{recordBy}
 use Rattle.cursor.specs.declared.State.{State}
 use Rattle.cursor.specs.declared.State.the-variants as State
 use Rattle.cursor.specs.declared.ReplayCursor.{ReplayCursor}
@@ -45,13 +43,8 @@ idsNumbers ids = idsNumbersFor (ids .run .0) (ids .next)
 abbrev pub allocatedNumbers : Allocated → AllocatedNumbers
 allocatedNumbers a = record { ids = idsNumbers (a .ids); answer = effectIdResultTold (a .answer) }
 
--- clock 1: `AfterBoot`; any other: `AtPersistentTime`
 abbrev pub specOf : SpecNumbers → TimerSpec
-specOf n = cond (eqb (n .clock) 1) (TimerSpec.AfterBoot (n .deadline)) (TimerSpec.AtPersistentTime (n .deadline))
-
--- 0: `BootOnly`; any other: `Persistent`
-abbrev pub capabilityOf : ℕ → ClockCapability
-capabilityOf n = cond (eqb n 0) ClockCapability.BootOnly ClockCapability.Persistent
+specOf n = Specs.specOf (n .clock) (n .deadline)
 
 -- the refusal with the number n; a number that is none of them is taken for 21
 abbrev pub errorOf : ℕ → KernelError
@@ -62,25 +55,9 @@ errorOf n =
     (cond (eqb n 25) KernelError.NoPersistentClock
     (cond (eqb n 26) KernelError.ClockWentBackwards KernelError.IdExhausted))))
 
-abbrev pub scheduleOf : RecordNumbers → RecordRef
-scheduleOf n = RecordRef.EffectScheduled (record { 0 = n .s }) (record { 0 = n .a }) (n .d % 65536) (n .m % 4294967296)
-
--- a record by the fields of a journal entry, its body m bytes from start; a kind that is none of 1 to 8 is a marker.
--- A 16-bit or 32-bit field is taken from the low bits.
-abbrev pub recordBy : ℕ → RecordNumbers → RecordRef
-recordBy kind n =
-    cond (eqb kind 1) (RecordRef.RunStarted (n .a) (n .d % 65536) (record { start = n .start; len = n .m }))
-    (cond (eqb kind 2) (scheduleOf n)
-    (cond (eqb kind 3) (RecordRef.EffectCompleted (record { 0 = n .s }) (record { start = n .start; len = n .m }))
-    (cond (eqb kind 4) (RecordRef.EffectFailed (record { 0 = n .s }) (record { start = n .start; len = n .m }))
-    (cond (eqb kind 5) (RecordRef.TimerScheduled (record { 0 = n .s }) (record { 0 = n .clock }) (n .d) (n .m))
-    (cond (eqb kind 6) (RecordRef.TimerFired (record { 0 = n .s }))
-    (cond (eqb kind 7) (RecordRef.RunCompleted (record { start = n .start; len = n .m }))
-    (cond (eqb kind 8) (RecordRef.RunFailed (record { start = n .start; len = n .m }))
-    (RecordRef.VersionMarker (record { 0 = n .s }) (record { 0 = n .a }) (n .d % 65536)))))))))
-
+-- a record by the fields of a journal entry, its body m bytes from start
 abbrev pub recordOf : RecordNumbers → RecordRef
-recordOf n = recordBy (n .kind) n
+recordOf n = recordBy (n .kind) (n .clock) (n .a) (n .s) (n .d) (n .m) (record { start = n .start; len = n .m })
 
 -- the position by its place among the positions, with what it holds
 abbrev pub stateAt : ℕ → CursorNumbers → State

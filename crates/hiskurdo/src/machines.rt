@@ -29,6 +29,7 @@ use crate::CursorNumbers;
 use crate::RecordNumbers;
 use crate::SpecNumbers;
 use answers::machines as told;
+use clocks::ClockCapability;
 use cursor::PendingEffect;
 use errors::Told;
 use ids::ActivityKind;
@@ -147,9 +148,8 @@ pub extern "C" fn hiskurdo_machine_advance(
         (stepResultTold (Phases.advanceRule (machineOf machine) (recordOf «record») .answer)) ⌝ }
 {
     let done = machine_of(machine).advance(crate::record_of(record));
-    let next = done.machine;
     let answer = done.answer;
-    answered(next, answers::step_result_told(answer))
+    answered(done.machine, answers::step_result_told(answer))
 }
 
 #[no_mangle]
@@ -164,9 +164,8 @@ pub extern "C" fn hiskurdo_machine_intent(
         (intentResultTold (intentRule (machineOf machine) (requestOf request) (nextOf ended «record») .answer)) ⌝ }
 {
     let done = machine_of(machine).intent(request_of(request), next_of(ended, record));
-    let next = done.machine;
     let answer = done.answer;
-    answered(next, told::intent_result_told(answer))
+    answered(done.machine, told::intent_result_told(answer))
 }
 
 #[no_mangle]
@@ -180,9 +179,8 @@ pub extern "C" fn hiskurdo_machine_outcome(
         (resolveResultTold (outcomeRule (machineOf machine) (nextOf ended «record») .answer)) ⌝ }
 {
     let done = machine_of(machine).outcome(next_of(ended, record));
-    let next = done.machine;
     let answer = done.answer;
-    answered(next, told::resolve_result_told(answer))
+    answered(done.machine, told::resolve_result_told(answer))
 }
 
 #[no_mangle]
@@ -200,9 +198,8 @@ pub extern "C" fn hiskurdo_machine_timer_intent(
 {
     let request = timer_request_of(spec, capability);
     let done = machine_of(machine).timer_intent(request, next_of(ended, record));
-    let next = done.machine;
     let answer = done.answer;
-    answered(next, told::timer_intent_result_told(answer))
+    answered(done.machine, told::timer_intent_result_told(answer))
 }
 
 #[no_mangle]
@@ -216,9 +213,8 @@ pub extern "C" fn hiskurdo_machine_timer_outcome(
         (timerResolveResultTold (timerOutcomeRule (machineOf machine) (nextOf ended «record») .answer)) ⌝ }
 {
     let done = machine_of(machine).timer_outcome(next_of(ended, record));
-    let next = done.machine;
     let answer = done.answer;
-    answered(next, told::timer_resolve_result_told(answer))
+    answered(done.machine, told::timer_resolve_result_told(answer))
 }
 
 // Numbers to values.
@@ -238,7 +234,7 @@ fn timer_request_of(spec: SpecNumbers, capability: u8) -> TimerRequest
 {
     TimerRequest {
         spec: crate::spec_of(spec),
-        capability: crate::capability_of(capability),
+        capability: ClockCapability::of(capability as u64),
     }
 }
 
@@ -294,9 +290,8 @@ fn phase_of(phase: u8, divergence: u8) -> Phase
 fn machine_of(n: MachineNumbers) -> ReplayMachine
     ensures { λ r. ⌜ r ≡ machineOf n ⌝ }
 {
-    let cursor = n.cursor;
     ReplayMachine {
-        cursor: crate::cursor_of(cursor),
+        cursor: crate::cursor_of(n.cursor),
         phase: phase_of(n.phase, n.divergence),
     }
 }
@@ -306,9 +301,8 @@ fn machine_of(n: MachineNumbers) -> ReplayMachine
 fn machine_numbers(machine: ReplayMachine) -> MachineNumbers
     ensures { λ r. ⌜ r ≡ machineNumbers machine ⌝ }
 {
-    let cursor = machine.cursor;
     let phase = machine.phase;
-    phase_numbers(crate::cursor_numbers(cursor), phase)
+    phase_numbers(crate::cursor_numbers(machine.cursor), phase)
 }
 
 fn phase_numbers(cursor: CursorNumbers, phase: Phase) -> MachineNumbers

@@ -8,5 +8,5 @@ pub advanced-numbers-spec : {M : Type 1} → statement M
 advanced-numbers-spec =
     let shown = tie.spec
     (λ c κs. search needs) (λ c κs. search needs)
-    (λ c. cc) in
+    (λ c. rw (c .step-result-told .ensures, c .before .cursor-numbers .ensures)) in
     tie.close shown

@@ -8,5 +8,5 @@ pub allocated-numbers-spec : {M : Type 1} → statement M
 allocated-numbers-spec =
     let shown = tie.spec
     (λ c κs. search needs) (λ c κs. search needs)
-    (λ c. cc) in
+    (λ c. rw (c .told .ensures, c .before .ids-numbers .ensures)) in
     tie.close shown

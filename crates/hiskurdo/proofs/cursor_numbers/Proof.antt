@@ -8,5 +8,5 @@ pub cursor-numbers-spec : {M : Type 1} → statement M
 cursor-numbers-spec =
     let shown = tie.spec
     (λ c κs. search needs) (λ c κs. search needs)
-    (λ c. cc) in
+    (λ c. rw (c .state-numbers .ensures, c .before .ids-numbers .ensures)) in
     tie.close shown

@@ -8,5 +8,5 @@ pub cursor-of-spec : {M : Type 1} → statement M
 cursor-of-spec =
     let shown = tie.spec
     (λ c κs. search needs) (λ c κs. search needs)
-    (λ c. cc) in
+    (λ c. rw (c .state-of .ensures, c .before .ids-of .ensures)) in
     tie.close shown

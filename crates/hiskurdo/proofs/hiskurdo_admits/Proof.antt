@@ -8,5 +8,5 @@ pub hiskurdo-admits-spec : {M : Type 1} → statement M
 hiskurdo-admits-spec =
     let shown = tie.spec
     (λ c κs. search needs) (λ c κs. search needs) (λ c κs. search needs) (λ c κs. search needs)
-    (λ c. cc) in
+    (λ c. rw (c .told .ensures, c .before .admits .ensures, c .before .before .spec-of .ensures, c .before .before .before .of .ensures)) in
     tie.close shown

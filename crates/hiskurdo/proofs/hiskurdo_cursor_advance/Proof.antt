@@ -8,5 +8,5 @@ pub hiskurdo-cursor-advance-spec : {M : Type 1} → statement M
 hiskurdo-cursor-advance-spec =
     let shown = tie.spec
     (λ c κs. search needs) (λ c κs. search needs) (λ c κs. search needs) (λ c κs. search needs)
-    (λ c. cc) in
+    (λ c. rw (c .advanced-numbers .ensures, c .before .advance .ensures, c .before .before .record-of .ensures, c .before .before .before .cursor-of .ensures)) in
     tie.close shown

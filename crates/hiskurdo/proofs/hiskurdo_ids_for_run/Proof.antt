@@ -8,5 +8,5 @@ pub hiskurdo-ids-for-run-spec : {M : Type 1} → statement M
 hiskurdo-ids-for-run-spec =
     let shown = tie.spec
     (λ c κs. search needs) (λ c κs. search needs)
-    (λ c. cc) in
+    (λ c. rw (c .ids-numbers .ensures, c .before .for-run .ensures)) in
     tie.close shown

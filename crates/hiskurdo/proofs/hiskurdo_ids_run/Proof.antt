@@ -8,5 +8,5 @@ pub hiskurdo-ids-run-spec : {M : Type 1} → statement M
 hiskurdo-ids-run-spec =
     let shown = tie.spec
     (λ c κs. search needs) (λ c κs. search needs)
-    (λ c. cc) in
+    (λ c. rw (c .run .ensures, c .before .ids-of .ensures)) in
     tie.close shown

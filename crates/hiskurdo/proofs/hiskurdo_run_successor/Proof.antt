@@ -8,5 +8,5 @@ pub hiskurdo-run-successor-spec : {M : Type 1} → statement M
 hiskurdo-run-successor-spec =
     let shown = tie.spec
     (λ c κs. search needs) (λ c κs. search needs)
-    (λ c. cc) in
+    (λ c. rw (c .told .ensures, c .before .successor .ensures)) in
     tie.close shown

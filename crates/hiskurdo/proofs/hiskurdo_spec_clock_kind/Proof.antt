@@ -8,5 +8,5 @@ pub hiskurdo-spec-clock-kind-spec : {M : Type 1} → statement M
 hiskurdo-spec-clock-kind-spec =
     let shown = tie.spec
     (λ c κs. search needs) (λ c κs. search needs)
-    (λ c. cc) in
+    (λ c. rw (c .clock-kind .ensures, c .before .spec-of .ensures)) in
     tie.close shown

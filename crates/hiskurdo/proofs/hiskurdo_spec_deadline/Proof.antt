@@ -8,5 +8,5 @@ pub hiskurdo-spec-deadline-spec : {M : Type 1} → statement M
 hiskurdo-spec-deadline-spec =
     let shown = tie.spec
     (λ c κs. search needs) (λ c κs. search needs)
-    (λ c. cc) in
+    (λ c. rw (c .deadline .ensures, c .before .spec-of .ensures)) in
     tie.close shown

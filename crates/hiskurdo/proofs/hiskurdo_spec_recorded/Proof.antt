@@ -8,5 +8,5 @@ pub hiskurdo-spec-recorded-spec : {M : Type 1} → statement M
 hiskurdo-spec-recorded-spec =
     let shown = tie.spec
     (λ c κs. search needs) (λ c κs. search needs)
-    (λ c. cc) in
+    (λ c. rw (c .told .ensures, c .before .recorded .ensures)) in
     tie.close shown

@@ -8,5 +8,5 @@ pub hiskurdo-timer-arm-spec : {M : Type 1} → statement M
 hiskurdo-timer-arm-spec =
     let shown = tie.spec
     (λ c κs. search needs) (λ c κs. search needs) (λ c κs. search needs) (λ c κs. search needs)
-    (λ c. cc) in
+    (λ c. rw (c .told .ensures, c .before .arm .ensures, c .before .before .of .ensures, c .before .before .before .spec-of .ensures)) in
     tie.close shown

@@ -8,5 +8,5 @@ pub hiskurdo-timer-evaluate-spec : {M : Type 1} → statement M
 hiskurdo-timer-evaluate-spec =
     let shown = tie.spec
     (λ c κs. search needs) (λ c κs. search needs) (λ c κs. search needs)
-    (λ c. cc) in
+    (λ c. rw (c .told .ensures, c .before .evaluate .ensures, c .before .before .spec-of .ensures)) in
     tie.close shown

@@ -8,5 +8,5 @@ pub ids-of-spec : {M : Type 1} → statement M
 ids-of-spec =
     let shown = tie.spec
     (λ c κs. search needs)
-    (λ c. cc) in
+    (λ c. rw (c .seq-option-of .ensures)) in
     tie.close shown

@@ -9,5 +9,5 @@ hiskurdo-machine-advance-spec =
     let shown = tie.spec
     (λ c κs. search needs) (λ c κs. search needs) (λ c κs. search needs) (λ c κs. search needs)
     (λ c κs. search needs)
-    (λ c. rw (c .answered .ensures, c .before .step-result-told .ensures, c .before .before .before .advance .ensures, c .before .before .before .before .record-of .ensures, c .before .before .before .before .before .machine-of .ensures)) in
+    (λ c. rw (c .answered .ensures, c .before .step-result-told .ensures, c .before .before .advance .ensures, c .before .before .before .record-of .ensures, c .before .before .before .before .machine-of .ensures)) in
     tie.close shown

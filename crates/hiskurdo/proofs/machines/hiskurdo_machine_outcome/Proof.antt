@@ -9,5 +9,5 @@ hiskurdo-machine-outcome-spec =
     let shown = tie.spec
     (λ c κs. search needs) (λ c κs. search needs) (λ c κs. search needs) (λ c κs. search needs)
     (λ c κs. search needs)
-    (λ c. rw (c .answered .ensures, c .before .resolve-result-told .ensures, c .before .before .before .outcome .ensures, c .before .before .before .before .next-of .ensures, c .before .before .before .before .before .machine-of .ensures)) in
+    (λ c. rw (c .answered .ensures, c .before .resolve-result-told .ensures, c .before .before .outcome .ensures, c .before .before .before .next-of .ensures, c .before .before .before .before .machine-of .ensures)) in
     tie.close shown

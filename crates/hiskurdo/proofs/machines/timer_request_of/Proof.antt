@@ -8,5 +8,5 @@ pub timer-request-of-spec : {M : Type 1} → statement M
 timer-request-of-spec =
     let shown = tie.spec
     (λ c κs. search needs) (λ c κs. search needs)
-    (λ c. rw (c .capability-of .ensures, c .before .spec-of .ensures)) in
+    (λ c. rw (c .of .ensures, c .before .spec-of .ensures)) in
     tie.close shown
