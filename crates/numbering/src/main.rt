@@ -4,14 +4,17 @@ use answers::machines as told;
 use clocks::ClockCapability;
 use clocks::TimerSpec;
 use cursor::ReplayCursor;
+use cursor::State;
 use cursor::StepResult;
 use ids::ActivityKind;
 use ids::ClockKind;
+use ids::EffectIdAllocator;
 use ids::EffectSeq;
 use ids::GateId;
 use ids::RunId;
 use machine::EffectRequest;
 use machine::Next;
+use machine::Phase;
 use machine::ReplayMachine;
 use machine::TimerRequest;
 use records::Body;
@@ -34,7 +37,7 @@ fn main() {
     timers_at_the_end(machine);
 }
 
-// From a fresh machine: the start, then a marker for each number, as long as they are accepted.
+// From a fresh machine: the start, then a marker for each number, as long as they are accepted and leave it replaying.
 fn walk() -> Walked {
     let fresh = ReplayMachine::new(RunId(7));
     let started = fresh.advance(start());
@@ -42,14 +45,33 @@ fn walk() -> Walked {
     let mut markers: u64 = 0;
     while markers < 4294967296 {
         let advanced = machine.advance(marker(markers as u32));
-        machine = advanced.machine;
         let answer = advanced.answer;
+        let next = advanced.machine;
+        let cursor = next.cursor;
+        let state = cursor.state;
         if let StepResult::Err(_) = answer {
             return Walked { machine, markers };
         }
+        let State::Replaying = state else {
+            return Walked { machine, markers };
+        };
+        let ids = cursor.ids;
+        let phase = next.phase;
+        machine = replaying(ids, phase);
         markers += 1;
     }
     Walked { machine, markers }
+}
+
+// A machine that replays is these two. Made again of them it is the same, and the room of an open boundary is not copied.
+fn replaying(ids: EffectIdAllocator, phase: Phase) -> ReplayMachine {
+    ReplayMachine {
+        cursor: ReplayCursor {
+            ids,
+            state: State::Replaying,
+        },
+        phase,
+    }
 }
 
 // Records.
