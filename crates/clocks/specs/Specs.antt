@@ -25,7 +25,7 @@ recordedSpec kind deadline =
     cond (eqb (kind .0) 1) (TimerSpecOption.Some (TimerSpec.AfterBoot deadline))
     (cond (eqb (kind .0) 2) (TimerSpecOption.Some (TimerSpec.AtPersistentTime deadline)) TimerSpecOption.None)
 
--- a step's or a caller's spec, by numbers: clock 1 is `AfterBoot`, any other `AtPersistentTime`
+-- 01: "Clock kind 1 is `AfterBoot`, 2 `AtPersistentTime`", where no other can be: any but 1 is taken for 2
 abbrev pub specOf : ℕ → ℕ → TimerSpec
 specOf clock deadline = cond (eqb clock 1) (TimerSpec.AfterBoot deadline) (TimerSpec.AtPersistentTime deadline)
 
@@ -34,7 +34,7 @@ abbrev pub rearmedAt : TimerSpec → ℕ → ℕ → ℕ
 rearmedAt (TimerSpec.AfterBoot ticks) recorded now = min recorded now
 rearmedAt (TimerSpec.AtPersistentTime instant) recorded now = recorded
 
--- a capability by its number: 0 is `BootOnly`, any other `Persistent`
+-- 01: "the capability (0 `BootOnly`, 1 `Persistent`)"; any but 0 is taken for 1
 abbrev pub capabilityOf : ℕ → ClockCapability
 capabilityOf n = cond (eqb n 0) ClockCapability.BootOnly ClockCapability.Persistent
 
