@@ -55,7 +55,7 @@ pub struct Settings {
     /// The longest sequences and scripts that are walked, nothing twice from the same place.
     pub depth: u32,
     pub script_depth: u32,
-    /// The longest that are each made from their first call on.
+    /// The longest that are walked with nothing left out.
     pub short: u32,
     pub script_short: u32,
     pub random_timers: u64,

@@ -10,7 +10,7 @@ use crate::rust_side::RustSide;
 /// The calls that are made where the Rust stands so.
 type Alphabet = fn(&RustSide) -> Vec<Call>;
 
-/// Every sequence of up to `depth` calls, each made from its first call on.
+/// Every sequence of up to `depth` calls, with nothing left out: from each place, however often it is reached.
 pub fn walk_each(both: &mut Both, depth: u32, alphabet: Alphabet) {
     if depth == 0 {
         return;
