@@ -1,1 +1,5 @@
-pub mod Product
+pub mod Before
+pub mod Digits
+pub mod Put
+pub mod Read
+pub mod Sizes

@@ -14,9 +14,15 @@ Inv-loop text file₀ at₀ file at = length file ≡ length file₀
 abbrev μ-loop : tie.MeasureT-loop
 μ-loop text file₀ at₀ file at = length text - at
 
+loop-less : tie.Need-loop-less Inv-loop μ-loop
+loop-less c =
+    let line = c .before .before .before .before .read-line in
+    let test = c .before .before .before .before .before .before .loop-test in
+    omega (arith, line .ensures .1 .1 .0 .1 (test .taken))
+
 pub run-spec : {M : Type 1} → statement M
 run-spec =
     tie.close
     (tie.spec Inv-loop μ-loop (λ c. search needs) (λ c κs. search needs) (λ c κs. search needs)
-    (λ c. omega (arith, c .before .before .before .before .read-line .ensures .0 .1 (c .before .before .before .before .before .before .loop-test .taken)))
+    loop-less
     (λ c. search needs) (λ c. search needs) (λ c. search needs))

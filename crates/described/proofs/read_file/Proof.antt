@@ -1,20 +1,41 @@
--- `described::read_file` meets its contract: the loop stays within text and file. The measure is the text left.
+-- `described::read_file` meets its contract: where the file has bytes, the line is of the right form and they fit.
 -- Assumes nothing.
 use borrow.Author.Needs.{needs}
-use Prim.Native.Nat.{_-_, _+_, _≤_, _<_}
+use mathlib.Core.Path.{_∙_}
+use native.Mathlib.Omega.{arith}
 use lib.ListN.{length}
-use mathlib.Core.Path.{_≡_}
+use Rattle.described.proofs.Read.{file-written, file-empty, file-room}
+use Rattle.described.proofs.Sizes.{file-there}
 use Rattle.described.proofs.read_file.Statement.{statement}
 use Rattle.described.proofs.read_file.Tie as tie
 
-abbrev Inv-loop : tie.InvT-loop
-Inv-loop text from file₀ at₀ len₀ file at len = (from ≤ at) × (at ≤ length text) × (len ≤ length file) × (length file ≡ length file₀)
+write-items-requires : tie.Need-write-items-requires
+write-items-requires c κs =
+    let len = c .before .before .file-len in
+    let args = c .before .before .before .before .before .args in
+    let there = file-there (args .line .now) (length (args .room .now)) (omega arith) in
+    (there .0, (there .1, there .2))
 
-abbrev μ-loop : tie.MeasureT-loop
-μ-loop text from file₀ at₀ len₀ file at len = length text - at
+returns : tie.Need-returns
+returns c =
+    let written = c .before .before .write-items in
+    let len = c .before .before .before .before .before .file-len in
+    let args = c .before .before .before .before .before .before .before .before .args in
+    let line = args .line .now in
+    let room = args .room .now in
+    let after = written .last .1 .0 in
+    let said = file-written line room after (len .result) (len .ensures) (omega arith) (written .ensures) in
+    (len .ensures, (said, file-room line room after (len .result) (len .ensures) said))
+
+returns-2 : tie.Need-returns-2
+returns-2 c =
+    let len = c .before .file-len in
+    let args = c .before .before .before .before .args in
+    let line = args .line .now in
+    let room = args .room .now in
+    let said = file-empty line room room (len .result) (len .ensures) (omega arith) in
+    (len .ensures, (said, file-room line room room (len .result) (len .ensures) said))
 
 pub read-file-spec : {M : Type 1} → statement M
 read-file-spec =
-    tie.close
-    (tie.spec Inv-loop μ-loop (λ c. search needs) (λ c. search needs) (λ c. search needs) (λ c. search needs) (λ c. search needs)
-    (λ c κs. search needs) (λ c. search needs) (λ c. search needs) (λ c. search needs) (λ c. search needs))
+    let shown = tie.spec (λ c κs. search needs) write-items-requires (λ c. search needs) returns returns-2 in tie.close shown

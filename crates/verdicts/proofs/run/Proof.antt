@@ -14,9 +14,16 @@ Inv-loop text journal₀ plan₀ at₀ journal plan at = (length journal ≡ len
 abbrev μ-loop : tie.MeasureT-loop
 μ-loop text journal₀ plan₀ at₀ journal plan at = length text - at
 
+loop-less : tie.Need-loop-less Inv-loop μ-loop
+loop-less c =
+    let second = c .before .before .before .before .before .read-line2 in
+    let first = c .before .before .before .before .before .before .before .before .before .read-line in
+    let test = c .before .before .before .before .before .before .before .before .before .before .before .loop-test in
+    omega (arith, first .ensures .1 .1 .0 .1 (test .taken), second .ensures .1 .1 .0 .0)
+
 pub run-spec : {M : Type 1} → statement M
 run-spec =
     tie.close
     (tie.spec Inv-loop μ-loop (λ c. search needs) (λ c κs. search needs) (λ c κs. search needs) (λ c κs. search needs)
-    (λ c. omega (arith, c .before .before .before .before .before .before .before .before .before .read-line .ensures .0 .1 (c .before .before .before .before .before .before .before .before .before .before .before .loop-test .taken), c .before .before .before .before .before .read-line2 .ensures .0 .0))
+    loop-less
     (λ c. search needs) (λ c. search needs) (λ c. search needs) (λ c. search needs))
