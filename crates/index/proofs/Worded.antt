@@ -1,11 +1,10 @@
 -- Every answer that the verdict gives has a row of its own in the table of words: no file leads to the words of no row.
 use Prim.Native.Nat.{ℕ}
-use mathlib.Core.Path.{_≡_, refl, sym, subst}
+use mathlib.Core.Path.{_≡_, refl}
 use mathlib.Core.Bool.{Bool, true, false, cond, _||_}
 use mathlib.Core.List.{List, [], _∷_}
-use native.Mathlib.Omega.{arith}
 use lib.Dec.{T, eqb}
-use borrow.Author.Tests.{eqb-true}
+use Rattle.clocks.specs.declared.ClockCapability.{ClockCapability}
 use Rattle.records.specs.declared.RecordRef.{RecordRef}
 use Rattle.records.specs.Records.{among}
 use Rattle.files.specs.declared.Format.the-variants as Format
@@ -13,15 +12,18 @@ use Rattle.files.specs.declared.JournalRead.{JournalRead}
 use Rattle.files.specs.declared.JournalRead.the-variants as JournalRead
 use Rattle.files.specs.declared.PlanRead.{PlanRead}
 use Rattle.files.specs.declared.PlanRead.the-variants as PlanRead
+use Rattle.files.specs.declared.PlanStep.{PlanStep}
 use Rattle.files.specs.Reading.{checkNumbers, journalRule, planRule}
-use Rattle.files.specs.Contents.{recordsOf}
+use Rattle.files.specs.Contents.{recordsOf, stepsOf}
 use Rattle.files.proofs.Laws.{journal-number, plan-number}
 use Rattle.histories.specs.declared.Answer.{Answer}
 use Rattle.histories.specs.declared.Answer.the-variants as Answer
 use Rattle.endings.specs.declared.Ending.{Ending}
 use Rattle.endings.specs.declared.Ending.the-variants as Ending
 use Rattle.endings.specs.Endings.{endingNumber}
+use Rattle.histories.specs.Checklist.{numbers, divergences, divergencesOf}
 use Rattle.histories.specs.Promise.{Promise, RefusedCount, Counted}
+use Rattle.histories.proofs.Numbers.{Each, each}
 use Rattle.lines.specs.Words.{Row, table, isOf, detailOf}
 use Rattle.resume.specs.Verdict.{verdictBy, verdictRule, KeptBy, Kept}
 use Rattle.resume.proofs.Keeps.{keeps}
@@ -40,19 +42,6 @@ ending-worded Ending.Due = tt
 ending-worded Ending.Done = tt
 ending-worded Ending.Open = tt
 ending-worded Ending.Finished = tt
-
--- what holds of each number of a list holds of one among them
-abbrev Each : (ℕ → Type 0) → List ℕ → Type 0
-Each P [] = Unit {0}
-Each P (k ∷ ks) = P k × Each P ks
-
-each : (P : ℕ → Type 0) (ks : List ℕ) → Each P ks → (n : ℕ) → T (among ks n) → P n
-each P [] h n t = absurd t
-each P (k ∷ ks) h n t = by-test (eqb k n) refl t (λ u. each P ks (h .1) n u)
-  where
-    by-test : (b : Bool) → eqb k n ≡ b → T (b || among ks n) → (T (among ks n) → P n) → P n
-    by-test true e u rest = subst P (eqb-true k n e) (h .0)
-    by-test false e u rest = rest u
 
 -- a refusal of reading, which has no divergence
 abbrev Read : Bool → ℕ → ℕ → Type 0
@@ -73,11 +62,11 @@ malformed false false = tt
 -- a refusal of the procedure, by its number and divergence
 abbrev Replayed : Bool → ℕ → ℕ → Type 0
 Replayed opened place n =
-    (d : ℕ) → T (among (cond (eqb n 22) (1 ∷ 2 ∷ 3 ∷ 4 ∷ 6 ∷ []) (0 ∷ [])) d) → T (hasRow table n (detailOf n place d opened))
+    (d : ℕ) → T (among (divergencesOf n) d) → T (hasRow table n (detailOf n place d opened))
 
-replayed : (opened : Bool) (place : ℕ) → Each (Replayed opened place) (22 ∷ 23 ∷ 24 ∷ 25 ∷ 31 ∷ [])
+replayed : (opened : Bool) (place : ℕ) → Each (Replayed opened place) numbers
 replayed opened place = (
-  each (λ (d : ℕ). T (hasRow table 22 d)) (1 ∷ 2 ∷ 3 ∷ 4 ∷ 6 ∷ []) (tt, (tt, (tt, (tt, (tt, tt))))),
+  each (λ (d : ℕ). T (hasRow table 22 d)) divergences (tt, (tt, (tt, (tt, (tt, tt))))),
   (
     each (λ (d : ℕ). T (hasRow table 23 d)) (0 ∷ []) (tt, tt),
     (
@@ -87,17 +76,18 @@ replayed opened place = (
   ),
 )
 
-kept-worded : (records : List RecordRef) (answer : Answer) (opened : Bool) → Counted records answer → Worded answer opened
-kept-worded list (Answer.Ok ending stop records calls) opened c = ending-worded ending
-kept-worded list (Answer.No number place divergence calls) opened c =
-    each (Replayed opened place) (22 ∷ 23 ∷ 24 ∷ 25 ∷ 31 ∷ []) (replayed opened place) number (c .numbers) divergence (c .divergences)
+kept-worded : (capability : ClockCapability) (plan : List PlanStep) (records : List RecordRef) (answer : Answer) (opened : Bool) →
+    Counted capability plan records answer → Worded answer opened
+kept-worded capability plan list (Answer.Ok ending stop records calls) opened c = ending-worded ending
+kept-worded capability plan list (Answer.No number place divergence calls) opened c =
+    each (Replayed opened place) numbers (replayed opened place) number (c .listed) divergence (c .divergences)
 
 module _ (j p : List ℕ) (opened : Bool) where
   by-readings : (a : JournalRead) (b : PlanRead) → journalRule j ≡ a → planRule p ≡ b → KeptBy a b j p (verdictBy a b j p) → Worded (verdictBy a b j p) opened
   by-readings (JournalRead.Refused n place) b ea eb k = each (Read opened place) (checkNumbers Format.Journal) (journal-worded opened place) n (journal-number j ea)
   by-readings (JournalRead.Readable run count) (PlanRead.Refused n place) ea eb k =
       each (Read opened place) (checkNumbers Format.Plan) (plan-worded opened place) n (plan-number p eb)
-  by-readings (JournalRead.Readable run count) (PlanRead.Readable capability steps) ea eb k = kept-worded (recordsOf j) (verdictBy (JournalRead.Readable run count) (PlanRead.Readable capability steps) j p) opened (k .counts)
+  by-readings (JournalRead.Readable run count) (PlanRead.Readable capability steps) ea eb k = kept-worded capability (stepsOf p) (recordsOf j) (verdictBy (JournalRead.Readable run count) (PlanRead.Readable capability steps) j p) opened (k .counts)
 
   pub worded : Worded (verdictRule j p) opened
   unfolding verdictRule

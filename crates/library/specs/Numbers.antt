@@ -1,15 +1,10 @@
 -- The answers of the files' reader in numbers, as Rust or C sees them.
 use Prim.Native.Nat.{ℕ}
-use Rattle.clocks.specs.declared.ClockCapability.{ClockCapability}
-use Rattle.clocks.specs.declared.ClockCapability.the-variants as ClockCapability
+use Rattle.errors.specs.declared.Told.{Told}
 use Rattle.records.specs.declared.Body.{Body}
 use Rattle.records.specs.declared.RecordRef.{RecordRef}
 use Rattle.records.specs.declared.RecordRef.the-variants as RecordRef
 use Rattle.files.specs.declared.Entry.{Entry}
-use Rattle.files.specs.declared.JournalRead.{JournalRead}
-use Rattle.files.specs.declared.JournalRead.the-variants as JournalRead
-use Rattle.files.specs.declared.PlanRead.{PlanRead}
-use Rattle.files.specs.declared.PlanRead.the-variants as PlanRead
 use Rattle.files.specs.declared.PlanStep.{PlanStep}
 use Rattle.files.specs.declared.PlanStep.the-variants as PlanStep
 use Rattle.files.specs.declared.RecordOption.{RecordOption}
@@ -21,25 +16,9 @@ use Rattle.files.specs.Encoding.{entryWith, recordEntry, stepEntry}
 use Rattle.library.specs.declared.ReadNumbers.{ReadNumbers}
 use Rattle.library.specs.declared.EntryNumbers.{EntryNumbers}
 
--- "the capability (0 `BootOnly`, 1 `Persistent`)"
-abbrev pub capabilityNumber : ClockCapability → ℕ
-capabilityNumber ClockCapability.BootOnly = 0
-capabilityNumber ClockCapability.Persistent = 1
-
--- a refusal has its number and place; a readable file has 0, and what its header says
-abbrev pub refusedNumbers : ℕ → ℕ → ReadNumbers
-refusedNumbers number place = record { number = number; place = place; head = 0; count = 0 }
-
-abbrev pub readableNumbers : ℕ → ℕ → ReadNumbers
-readableNumbers head count = record { number = 0; place = 0; head = head; count = count }
-
-abbrev pub journalNumbers : JournalRead → ReadNumbers
-journalNumbers (JournalRead.Refused number place) = refusedNumbers number place
-journalNumbers (JournalRead.Readable run count) = readableNumbers (run .0) count
-
-abbrev pub planNumbers : PlanRead → ReadNumbers
-planNumbers (PlanRead.Refused number place) = refusedNumbers number place
-planNumbers (PlanRead.Readable capability count) = readableNumbers (capabilityNumber capability) count
+-- the readers' answers: number, place, what the header says, count
+abbrev pub readNumbers : Told → ReadNumbers
+readNumbers t = record { number = t .number; place = t .a; head = t .b; count = t .c }
 
 -- the empty body at 0 stands for none
 abbrev pub noBody : Body

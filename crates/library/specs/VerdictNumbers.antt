@@ -1,10 +1,7 @@
 -- The verdict and the handover in numbers, as Rust or C sees them.
-use Prim.Native.Nat.{ℕ}
-use Rattle.records.specs.declared.Body.{Body}
+use Rattle.errors.specs.declared.Told.{Told}
 use Rattle.histories.specs.declared.Answer.{Answer}
 use Rattle.histories.specs.declared.Answer.the-variants as Answer
-use Rattle.histories.specs.declared.Handed.{Handed}
-use Rattle.histories.specs.declared.Handed.the-variants as Handed
 use Rattle.endings.specs.Endings.{endingNumber}
 use Rattle.library.specs.declared.verdicts.HandoverNumbers.{HandoverNumbers}
 use Rattle.library.specs.declared.verdicts.VerdictNumbers.{VerdictNumbers}
@@ -16,12 +13,6 @@ verdictNumbers (Answer.Ok ending stop records calls) =
 verdictNumbers (Answer.No number place divergence calls) =
     record { refused = 1; a = number; b = place; c = divergence; d = calls }
 
-abbrev pub givenNumbers : ℕ → Body → HandoverNumbers
-givenNumbers what body = record { number = 0; what = what; start = body .start; len = body .len }
-
--- "completed, failed, input or the refusal's number"
-abbrev pub handoverNumbers : Handed → HandoverNumbers
-handoverNumbers (Handed.Completed body) = givenNumbers 1 body
-handoverNumbers (Handed.Failed body) = givenNumbers 2 body
-handoverNumbers (Handed.Input body) = givenNumbers 3 body
-handoverNumbers (Handed.Refused number) = record { number = number; what = 0; start = 0; len = 0 }
+-- the handover's: number, what is given, start, length
+abbrev pub handoverNumbers : Told → HandoverNumbers
+handoverNumbers t = record { number = t .number; what = t .a; start = t .b; len = t .c }

@@ -8,7 +8,9 @@ ghost use mathlib.Core.Path.{_≡_};
 ghost use Rattle.files.specs.Reading.{journalRule, planRule};
 ghost use Rattle.files.specs.Contents.{nextRecord, nextStep};
 ghost use Rattle.files.specs.Encoding.{entryWith, recordEntry, stepEntry};
-ghost use Rattle.library.specs.Numbers.{capabilityNumber, refusedNumbers, readableNumbers, journalNumbers, planNumbers, noBody, recordBody, stepBody, entryNumbers, nothing, recordNumbers, stepNumbers};
+ghost use Rattle.errors.specs.Told.{told1};
+ghost use Rattle.files.specs.Told.{capabilityNumber, readableTold, journalTold, planTold};
+ghost use Rattle.library.specs.Numbers.{readNumbers, noBody, recordBody, stepBody, entryNumbers, nothing, recordNumbers, stepNumbers};
 use clocks::ClockCapability;
 use clocks::TimerSpec;
 use files::Entry;
@@ -57,7 +59,7 @@ fn capability_number(capability: ClockCapability) -> u64
 }
 
 fn refused(number: u64, place: u64) -> ReadNumbers
-    ensures { λ r. ⌜ r ≡ refusedNumbers number place ⌝ }
+    ensures { λ r. ⌜ r ≡ readNumbers (told1 number place) ⌝ }
 {
     ReadNumbers {
         number,
@@ -68,7 +70,7 @@ fn refused(number: u64, place: u64) -> ReadNumbers
 }
 
 fn readable(head: u64, count: u16) -> ReadNumbers
-    ensures { λ r. ⌜ r ≡ readableNumbers head count ⌝ }
+    ensures { λ r. ⌜ r ≡ readNumbers (readableTold head count) ⌝ }
 {
     ReadNumbers {
         number: 0,
@@ -80,7 +82,7 @@ fn readable(head: u64, count: u16) -> ReadNumbers
 
 #[no_mangle]
 pub extern "C" fn hiskurdo_read_journal(file: &[u8]) -> ReadNumbers
-    ensures { λ r. ⌜ r ≡ journalNumbers (journalRule (now (file .entry))) ⌝ }
+    ensures { λ r. ⌜ r ≡ readNumbers (journalTold (journalRule (now (file .entry)))) ⌝ }
 {
     match reading::read_journal(file) {
         JournalRead::Refused { number, place } => refused(number, place),
@@ -90,7 +92,7 @@ pub extern "C" fn hiskurdo_read_journal(file: &[u8]) -> ReadNumbers
 
 #[no_mangle]
 pub extern "C" fn hiskurdo_read_plan(file: &[u8]) -> ReadNumbers
-    ensures { λ r. ⌜ r ≡ planNumbers (planRule (now (file .entry))) ⌝ }
+    ensures { λ r. ⌜ r ≡ readNumbers (planTold (planRule (now (file .entry)))) ⌝ }
 {
     match reading::read_plan(file) {
         PlanRead::Refused { number, place } => refused(number, place),

@@ -2,7 +2,8 @@
 ghost use mathlib.Core.Path.{_≡_};
 ghost use Rattle.resume.specs.Verdict.{verdictRule};
 ghost use Rattle.resume.specs.Handing.{handedRule};
-ghost use Rattle.library.specs.VerdictNumbers.{verdictNumbers, givenNumbers, handoverNumbers};
+ghost use Rattle.histories.specs.Told.{givenTold, handedTold};
+ghost use Rattle.library.specs.VerdictNumbers.{verdictNumbers, handoverNumbers};
 use histories::Answer;
 use histories::Handed;
 use records::Body;
@@ -62,7 +63,7 @@ pub extern "C" fn hiskurdo_verdict(journal: &[u8], plan: &[u8]) -> VerdictNumber
 }
 
 fn given(what: u64, body: Body) -> HandoverNumbers
-    ensures { λ r. ⌜ r ≡ givenNumbers what body ⌝ }
+    ensures { λ r. ⌜ r ≡ handoverNumbers (givenTold what body) ⌝ }
 {
     HandoverNumbers {
         number: 0,
@@ -74,7 +75,7 @@ fn given(what: u64, body: Body) -> HandoverNumbers
 
 #[no_mangle]
 pub extern "C" fn hiskurdo_handover(journal: &[u8], plan: &[u8], boundary: u64) -> HandoverNumbers
-    ensures { λ r. ⌜ r ≡ handoverNumbers (handedRule (now (journal .entry)) (now (plan .entry)) boundary) ⌝ }
+    ensures { λ r. ⌜ r ≡ handoverNumbers (handedTold (handedRule (now (journal .entry)) (now (plan .entry)) boundary)) ⌝ }
 {
     match handing::handover_case(journal, plan, boundary) {
         Handed::Completed(body) => given(1, body),
