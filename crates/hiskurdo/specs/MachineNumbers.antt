@@ -54,22 +54,22 @@ abbrev pub ofMachine : (ReplayMachine → Told) → MachineOption → Told
 ofMachine says (MachineOption.Some m) = says m
 ofMachine says MachineOption.None = unnamed
 
--- where a number names nothing the machine's are given back as they are, with 60
-abbrev pub refused : MachineNumbers → MachineAnswered
-refused given = record { machine = given; answer = unnamed }
+-- where a number names nothing, the machine's numbers are given back as they were given, with 60
+abbrev pub machineKept : MachineNumbers → MachineAnswered
+machineKept given = record { machine = given; answer = unnamed }
 
 abbrev pub advancedBy : MachineNumbers → MachineOption → RecordRefOption → MachineAnswered
 advancedBy given (MachineOption.Some m) (RecordRefOption.Some x) =
     answered (advanceRule m x .machine) (stepResultTold (advanceRule m x .answer))
-advancedBy given (MachineOption.Some m) RecordRefOption.None = refused given
-advancedBy given MachineOption.None x = refused given
+advancedBy given (MachineOption.Some m) RecordRefOption.None = machineKept given
+advancedBy given MachineOption.None x = machineKept given
 
 -- a call with the record or the end of history
 abbrev pub calledBy : MachineNumbers → (ReplayMachine → Next → MachineAnswered) → TurnOption → MachineAnswered
 calledBy given call (TurnOption.Some m next) = call m next
-calledBy given call TurnOption.None = refused given
+calledBy given call TurnOption.None = machineKept given
 
 -- a timer's request besides
 abbrev pub requestedBy : MachineNumbers → (TimerRequest → MachineAnswered) → TimerRequestOption → MachineAnswered
 requestedBy given call (TimerRequestOption.Some request) = call request
-requestedBy given call TimerRequestOption.None = refused given
+requestedBy given call TimerRequestOption.None = machineKept given

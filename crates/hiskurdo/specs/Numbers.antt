@@ -63,6 +63,13 @@ abbrev pub ofCursor : (ReplayCursor → Told) → CursorOption → Told
 ofCursor says (CursorOption.Some c) = says c
 ofCursor says CursorOption.None = unnamed
 
+-- where a number names nothing, the numbers of the state are given back as they were given, with 60
+abbrev pub idsKept : IdsNumbers → AllocatedNumbers
+idsKept given = record { ids = given; answer = unnamed }
+
+abbrev pub cursorKept : CursorNumbers → AdvancedNumbers
+cursorKept given = record { cursor = given; answer = unnamed }
+
 abbrev pub idsNumbersFor : ℕ → SeqOption → IdsNumbers
 idsNumbersFor run (SeqOption.Some seq) = record { run = run; next = seq .0; offers = 1 }
 idsNumbersFor run SeqOption.None = record { run = run; next = 0; offers = 0 }
@@ -73,16 +80,15 @@ idsNumbers ids = idsNumbersFor (ids .run .0) (ids .next)
 abbrev pub allocatedNumbers : Allocated → AllocatedNumbers
 allocatedNumbers a = record { ids = idsNumbers (a .ids); answer = effectIdResultTold (a .answer) }
 
--- where the numbers name no allocator they are given back as they are, with 60
 abbrev pub allocatedBy : IdsNumbers → IdsOption → AllocatedNumbers
 allocatedBy given (IdsOption.Some ids) = allocatedNumbers (allocation ids)
-allocatedBy given IdsOption.None = record { ids = given; answer = unnamed }
+allocatedBy given IdsOption.None = idsKept given
 
 -- the allocator that goes on after what was committed, with 0
 abbrev pub resumedBy : IdsNumbers → OfferOption → AllocatedNumbers
 resumedBy given (OfferOption.Some last) =
     record { ids = idsNumbers (resumed (record { 0 = given .run }) last); answer = told0 0 }
-resumedBy given OfferOption.None = record { ids = given; answer = unnamed }
+resumedBy given OfferOption.None = idsKept given
 
 -- a cursor that holds nothing open; its error is 0 unless it has halted
 abbrev pub bare : IdsNumbers → ℕ → ℕ → CursorNumbers
@@ -140,8 +146,7 @@ cursorNumbers c = cursorNumbersFor (idsNumbers (c .ids)) (c .state)
 abbrev pub advancedNumbers : Advanced → AdvancedNumbers
 advancedNumbers a = record { cursor = cursorNumbers (a .cursor); answer = stepResultTold (a .answer) }
 
--- where the numbers name no cursor or no record the cursor's are given back as they are, with 60
 abbrev pub advancedBy : CursorNumbers → CursorOption → RecordRefOption → AdvancedNumbers
 advancedBy given (CursorOption.Some c) (RecordRefOption.Some x) = advancedNumbers (advanceRule c x)
-advancedBy given (CursorOption.Some c) RecordRefOption.None = record { cursor = given; answer = unnamed }
-advancedBy given CursorOption.None x = record { cursor = given; answer = unnamed }
+advancedBy given (CursorOption.Some c) RecordRefOption.None = cursorKept given
+advancedBy given CursorOption.None x = cursorKept given

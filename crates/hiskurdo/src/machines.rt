@@ -21,7 +21,7 @@ ghost use Rattle.hiskurdo.specs.MachineNumbers.{
   machineNumbers,
   answered,
   ofMachine,
-  refused,
+  machineKept,
   advancedBy,
   calledBy,
   requestedBy,
@@ -170,9 +170,9 @@ pub extern "C" fn hiskurdo_machine_advance(
                 let answer = done.answer;
                 return answered(done.machine, answers::step_result_told(answer));
             }
-            RecordRefOption::None => return refused(machine),
+            RecordRefOption::None => return machine_kept(machine),
         },
-        MachineOption::None => return refused(machine),
+        MachineOption::None => return machine_kept(machine),
     }
 }
 
@@ -195,7 +195,7 @@ pub extern "C" fn hiskurdo_machine_intent(
             let answer = done.answer;
             return answered(done.machine, told::intent_result_told(answer));
         }
-        TurnOption::None => return refused(machine),
+        TurnOption::None => return machine_kept(machine),
     }
 }
 
@@ -216,7 +216,7 @@ pub extern "C" fn hiskurdo_machine_outcome(
             let answer = done.answer;
             return answered(done.machine, told::resolve_result_told(answer));
         }
-        TurnOption::None => return refused(machine),
+        TurnOption::None => return machine_kept(machine),
     }
 }
 
@@ -244,9 +244,9 @@ pub extern "C" fn hiskurdo_machine_timer_intent(
                 let answer = done.answer;
                 return answered(done.machine, told::timer_intent_result_told(answer));
             }
-            TurnOption::None => return refused(machine),
+            TurnOption::None => return machine_kept(machine),
         },
-        TimerRequestOption::None => return refused(machine),
+        TimerRequestOption::None => return machine_kept(machine),
     }
 }
 
@@ -267,7 +267,7 @@ pub extern "C" fn hiskurdo_machine_timer_outcome(
             let answer = done.answer;
             return answered(done.machine, told::timer_resolve_result_told(answer));
         }
-        TurnOption::None => return refused(machine),
+        TurnOption::None => return machine_kept(machine),
     }
 }
 
@@ -342,9 +342,9 @@ fn answered(machine: ReplayMachine, answer: Told) -> MachineAnswered
     }
 }
 
-// The machine as it was given, where a given number names nothing.
-fn refused(machine: MachineNumbers) -> MachineAnswered
-    ensures { λ r. ⌜ r ≡ refused machine ⌝ }
+// The machine's numbers as they were given, where one of those given names nothing.
+fn machine_kept(machine: MachineNumbers) -> MachineAnswered
+    ensures { λ r. ⌜ r ≡ machineKept machine ⌝ }
 {
     MachineAnswered {
         machine,

@@ -16,7 +16,7 @@ returns c =
 returns-2 : tie.Need-returns-2
 returns-2 c =
     let named = c .before .before .before .ids-of in
-    by-arm (allocatedBy _) (sym (named .ensures) ∙ c .before .enum-told .given .1) (rw (c .names-nothing .ensures))
+    by-arm (allocatedBy _) (sym (named .ensures) ∙ c .before .enum-told .given .1) (c .ids-kept .ensures)
 
 pub hiskurdo-ids-allocate-spec : {M : Type 1} → statement M
 hiskurdo-ids-allocate-spec =

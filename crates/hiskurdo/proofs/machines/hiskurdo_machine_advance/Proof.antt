@@ -19,12 +19,12 @@ returns-2 c =
     let named = c .before .before .before .before .before .before .before .machine-of in
     let read = c .before .before .before .record-of in
     by-arms (advancedBy (c .before .before .before .before .before .before .before .before .args .machine)) (sym (named .ensures) ∙ c .before .before .before .before .before .m .given .1) (sym (read .ensures) ∙ c .before .enum-told .given .1)
-    (c .refused .ensures)
+    (c .machine-kept .ensures)
 
 returns-3 : tie.Need-returns-3
 returns-3 c =
     let named = c .before .before .before .machine-of in
-    by-arms (advancedBy (c .before .before .before .before .args .machine)) (sym (named .ensures) ∙ c .before .enum-told2 .given .1) refl (c .refused2 .ensures)
+    by-arms (advancedBy (c .before .before .before .before .args .machine)) (sym (named .ensures) ∙ c .before .enum-told2 .given .1) refl (c .machine-kept2 .ensures)
 
 pub hiskurdo-machine-advance-spec : {M : Type 1} → statement M
 hiskurdo-machine-advance-spec =

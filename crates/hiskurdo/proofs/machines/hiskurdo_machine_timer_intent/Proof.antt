@@ -22,13 +22,13 @@ returns-2 c =
     let wanted = c .before .before .before .before .before .before .before .timer-request-of in
     let asked = c .before .before .before .turn-of in
     by-arm (requestedBy (args .machine) _) (sym (wanted .ensures) ∙ c .before .before .before .before .before .request .given .1)
-    (by-arm (calledBy (args .machine) _) (sym (asked .ensures) ∙ c .before .enum-told .given .1) (c .refused .ensures))
+    (by-arm (calledBy (args .machine) _) (sym (asked .ensures) ∙ c .before .enum-told .given .1) (c .machine-kept .ensures))
 
 returns-3 : tie.Need-returns-3
 returns-3 c =
     let args = c .before .before .before .before .args in
     let wanted = c .before .before .before .timer-request-of in
-    by-arm (requestedBy (args .machine) _) (sym (wanted .ensures) ∙ c .before .enum-told2 .given .1) (c .refused2 .ensures)
+    by-arm (requestedBy (args .machine) _) (sym (wanted .ensures) ∙ c .before .enum-told2 .given .1) (c .machine-kept2 .ensures)
 
 pub hiskurdo-machine-timer-intent-spec : {M : Type 1} → statement M
 hiskurdo-machine-timer-intent-spec =

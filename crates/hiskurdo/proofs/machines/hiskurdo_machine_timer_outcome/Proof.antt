@@ -16,7 +16,7 @@ returns c =
 returns-2 : tie.Need-returns-2
 returns-2 c =
     let asked = c .before .before .before .turn-of in
-    by-arm (calledBy (c .before .before .before .before .args .machine) _) (sym (asked .ensures) ∙ c .before .enum-told .given .1) (c .refused .ensures)
+    by-arm (calledBy (c .before .before .before .before .args .machine) _) (sym (asked .ensures) ∙ c .before .enum-told .given .1) (c .machine-kept .ensures)
 
 pub hiskurdo-machine-timer-outcome-spec : {M : Type 1} → statement M
 hiskurdo-machine-timer-outcome-spec =
