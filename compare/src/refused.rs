@@ -238,11 +238,7 @@ fn readers(given: &Given) -> u64 {
     ];
     held_values(given, names_ids, &[hiskurdo_ids_run(ids)])
         + held(given, names_ids, &[hiskurdo_ids_peek(ids)])
-        + held_values(
-            given,
-            given.names_record(),
-            &[hiskurdo_record_kind(record)],
-        )
+        + held_values(given, given.names_record(), &[hiskurdo_record_kind(record)])
         + held(given, names_cursor, &of_cursor)
         + held_values(given, names_cursor, &values_of_cursor)
         + held(given, names_machine, &of_machine)
