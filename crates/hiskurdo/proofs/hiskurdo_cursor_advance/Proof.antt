@@ -24,7 +24,7 @@ returns-2 c =
 returns-3 : tie.Need-returns-3
 returns-3 c =
     let named = c .before .before .before .cursor-of in
-    by-arms (advancedBy (c .before .before .before .before .args .cursor)) (sym (named .ensures) ∙ c .before .enum-told2 .given .1) refl (c .cursor-kept2 .ensures)
+    by-arms (advancedBy (c .before .before .before .before .args .cursor)) (sym (named .ensures) ∙ c .before .enum-told2 .given .1) refl (rw (c .cursor-kept2 .ensures))
 
 pub hiskurdo-cursor-advance-spec : {M : Type 1} → statement M
 hiskurdo-cursor-advance-spec =

@@ -28,7 +28,7 @@ returns-3 : tie.Need-returns-3
 returns-3 c =
     let args = c .before .before .before .before .args in
     let wanted = c .before .before .before .timer-request-of in
-    by-arm (requestedBy (args .machine) _) (sym (wanted .ensures) ∙ c .before .enum-told2 .given .1) (c .machine-kept2 .ensures)
+    by-arm (requestedBy (args .machine) _) (sym (wanted .ensures) ∙ c .before .enum-told2 .given .1) (rw (c .machine-kept2 .ensures))
 
 pub hiskurdo-machine-timer-intent-spec : {M : Type 1} → statement M
 hiskurdo-machine-timer-intent-spec =
