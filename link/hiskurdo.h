@@ -7,7 +7,7 @@
  * Every call then ends, reads those bytes alone, writes its answer alone and keeps nothing. What the comments here say of the
  * answer is proved; the contract in crates/library/src says it exactly.
  *
- * README.md, "Numbers", lists refusals and divergences. Records, steps, boundaries and bytes count from 0. */
+ * README.md, "How to read a refusal", lists refusals and divergences; 60 is the replay core's alone. Records, steps, boundaries and bytes count from 0. */
 #ifndef HISKURDO_H
 #define HISKURDO_H
 
@@ -38,8 +38,8 @@ HiskurdoReadNumbers hiskurdo_read_plan(const uint8_t *file, size_t file_len);
  * kind 1 to 9, in a plan 2 or 5: clock, a, s, d and m are the entry's, 0 where the kind has no use for one; s is the number
  * that a record bears. The body is the len bytes from start of the same file, and lies within it; both are 0 where the kind
  * has no body. next_entry and next_body are what to pass for the one after it.
- * kind 0: nothing stands there. next_entry and next_body are those that were passed, all else is 0. It is no record to pass
- * to the replay core, libhiskurdo.a, which would take it for a VersionMarker. */
+ * kind 0: nothing stands there. next_entry and next_body are those that were passed, all else is 0. The replay
+ * core, libhiskurdo.a, refuses it as a record, with 60, and changes nothing. */
 typedef struct {
     uint64_t kind;
     uint64_t clock;
@@ -56,9 +56,9 @@ typedef struct {
 /* The record of a journal, the step of a plan, at this entry, its body taken to start at byte body.
  * To walk a readable file, pass entry 0 and body 16 + 24 * count, then what each answer says is next. That gives every record
  * or step in order, each with its whole body. From the header's count on the kind is 0.
- * On any other bytes, and from any other place, the kind is also 0 where it is unknown, or where the entry, or a body of its
- * length from there, does not lie within the file. A field that no readable file can have is cut to its width, and a step's
- * clock other than 1 is told as 2: so read a file before walking it. */
+ * On any other bytes, and from any other place, the kind is also 0 where it is unknown, where a step is a timer on another clock
+ * than 1 or 2, or where the entry, or a body of its length from there, does not lie within the file. A field that no readable
+ * file can have is cut to its width: so read a file before walking it. */
 HiskurdoEntryNumbers hiskurdo_next_record(const uint8_t *file, size_t file_len, uint64_t entry, uint64_t body);
 HiskurdoEntryNumbers hiskurdo_next_step(const uint8_t *file, size_t file_len, uint64_t entry, uint64_t body);
 

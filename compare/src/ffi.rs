@@ -31,7 +31,7 @@ pub struct AllocatedNumbers {
     pub answer: Told,
 }
 
-/// A timer's spec: clock 1 is `AfterBoot`, any other `AtPersistentTime`.
+/// A timer's spec: clock 1 is `AfterBoot`, 2 `AtPersistentTime`.
 #[repr(C)]
 #[derive(Clone, Copy, PartialEq, Eq, Debug, Default)]
 pub struct SpecNumbers {
@@ -53,7 +53,7 @@ pub struct RecordNumbers {
     pub start: u64,
 }
 
-/// A cursor. `position` counts the cases of `Position` from 0; the fields that a position does not hold are 0.
+/// A cursor. `position` counts the cases of `Position` from 0; the fields that a position does not hold are 0, and are not read.
 #[repr(C)]
 #[derive(Clone, Copy, PartialEq, Eq, Hash, Debug, Default)]
 pub struct CursorNumbers {
@@ -112,32 +112,39 @@ pub struct MachineAnswered {
     pub answer: Told,
 }
 
+/// The number of an answer where a given number names nothing: a kind of record that is none of 1 to 9, a clock of a spec that
+/// is not 1 or 2, a capability or a flag (`offers`, `committed`, `ended`) that is not 0 or 1, a position above 6, a halted
+/// position's error that is none of 21 to 26, a phase above 3, a diverged phase's divergence that is none of 1 to 7. The state
+/// in the answer is then the one that was given, number by number. Where an answer is one value, 0 is its number.
+pub const NAMES_NOTHING: u64 = 60;
+
 unsafe extern "C" {
     pub safe fn hiskurdo_run_successor(run: u64) -> Told;
     pub safe fn hiskurdo_seq_successor(seq: u32) -> Told;
     pub safe fn hiskurdo_ids_for_run(run: u64) -> IdsNumbers;
-    /// `committed` 0: nothing was committed, and `last` is not read.
-    pub safe fn hiskurdo_ids_resume(run: u64, committed: u8, last: u32) -> IdsNumbers;
-    pub safe fn hiskurdo_ids_run(ids: IdsNumbers) -> u64;
+    /// `committed` 0: nothing was committed, and `last` is not read; 1: `last` was.
+    pub safe fn hiskurdo_ids_resume(run: u64, committed: u8, last: u32) -> AllocatedNumbers;
+    pub safe fn hiskurdo_ids_run(ids: IdsNumbers) -> Told;
     pub safe fn hiskurdo_ids_peek(ids: IdsNumbers) -> Told;
     pub safe fn hiskurdo_ids_allocate(ids: IdsNumbers) -> AllocatedNumbers;
 
-    pub safe fn hiskurdo_spec_clock_kind(spec: SpecNumbers) -> u8;
-    pub safe fn hiskurdo_spec_deadline(spec: SpecNumbers) -> u64;
-    pub safe fn hiskurdo_spec_rearmed_at(spec: SpecNumbers, recorded: u64, now: u64) -> u64;
+    pub safe fn hiskurdo_spec_clock_kind(spec: SpecNumbers) -> Told;
+    pub safe fn hiskurdo_spec_deadline(spec: SpecNumbers) -> Told;
+    pub safe fn hiskurdo_spec_rearmed_at(spec: SpecNumbers, recorded: u64, now: u64) -> Told;
+    /// Any clock may be recorded; one that is not 1 or 2 has no spec, which is an answer and no refusal.
     pub safe fn hiskurdo_spec_recorded(clock: u8, deadline: u64) -> Told;
-    /// `capability` 0 is `BootOnly`, any other `Persistent`.
+    /// `capability` 0 is `BootOnly`, 1 `Persistent`.
     pub safe fn hiskurdo_admits(capability: u8, spec: SpecNumbers) -> Told;
     pub safe fn hiskurdo_timer_arm(spec: SpecNumbers, capability: u8, now: u64) -> Told;
     pub safe fn hiskurdo_timer_evaluate(spec: SpecNumbers, armed_at: u64, reading: u64) -> Told;
 
-    pub safe fn hiskurdo_record_kind(record: RecordNumbers) -> u8;
+    pub safe fn hiskurdo_record_kind(record: RecordNumbers) -> Told;
 
     pub safe fn hiskurdo_cursor_new(run: u64) -> CursorNumbers;
-    pub safe fn hiskurdo_cursor_run(cursor: CursorNumbers) -> u64;
+    pub safe fn hiskurdo_cursor_run(cursor: CursorNumbers) -> Told;
     pub safe fn hiskurdo_cursor_position(cursor: CursorNumbers) -> Told;
-    /// 1 where the position is terminal, else 0.
-    pub safe fn hiskurdo_cursor_is_terminal(cursor: CursorNumbers) -> u8;
+    /// The value is 1 where the position is terminal, else 0.
+    pub safe fn hiskurdo_cursor_is_terminal(cursor: CursorNumbers) -> Told;
     pub safe fn hiskurdo_cursor_pending(cursor: CursorNumbers) -> Told;
     pub safe fn hiskurdo_cursor_pending_timer(cursor: CursorNumbers) -> Told;
     pub safe fn hiskurdo_cursor_next_seq(cursor: CursorNumbers) -> Told;
@@ -147,14 +154,14 @@ unsafe extern "C" {
     /// The number of the divergence, 0 where there is none.
     pub safe fn hiskurdo_divergence_from(request: RequestNumbers, recorded: PendingNumbers, run: u64, seq: u32) -> u8;
     pub safe fn hiskurdo_machine_new(run: u64) -> MachineNumbers;
-    pub safe fn hiskurdo_machine_run(machine: MachineNumbers) -> u64;
+    pub safe fn hiskurdo_machine_run(machine: MachineNumbers) -> Told;
     pub safe fn hiskurdo_machine_position(machine: MachineNumbers) -> Told;
     pub safe fn hiskurdo_machine_pending(machine: MachineNumbers) -> Told;
     pub safe fn hiskurdo_machine_pending_timer(machine: MachineNumbers) -> Told;
-    /// The number of the divergence, 0 where there is none.
-    pub safe fn hiskurdo_machine_diverged(machine: MachineNumbers) -> u8;
+    /// The value is the number of the divergence, 0 where there is none.
+    pub safe fn hiskurdo_machine_diverged(machine: MachineNumbers) -> Told;
     pub safe fn hiskurdo_machine_advance(machine: MachineNumbers, record: RecordNumbers) -> MachineAnswered;
-    /// `ended` 0: `record` is next; any other: history ends here, and `record` is not read. So below.
+    /// `ended` 0: `record` is next; 1: history ends here, and `record` is not read. So below.
     pub safe fn hiskurdo_machine_intent(machine: MachineNumbers, request: RequestNumbers, ended: u8, record: RecordNumbers) -> MachineAnswered;
     pub safe fn hiskurdo_machine_outcome(machine: MachineNumbers, ended: u8, record: RecordNumbers) -> MachineAnswered;
     pub safe fn hiskurdo_machine_timer_intent(machine: MachineNumbers, spec: SpecNumbers, capability: u8, ended: u8, record: RecordNumbers) -> MachineAnswered;

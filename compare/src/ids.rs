@@ -13,7 +13,7 @@ pub fn run(_settings: &Settings, both: &mut Both) {
     for run in values::U64 {
         allocate_from(both, Call::ForRun { run });
         for last in values::U32 {
-            for committed in [0, 1, 255] {
+            for committed in [0, 1] {
                 allocate_from(
                     both,
                     Call::Resume {

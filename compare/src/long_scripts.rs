@@ -93,14 +93,14 @@ fn timer(random: &mut Random, right: u32) -> Call {
     }
     Call::TimerIntent {
         spec: spec_of(&record),
-        capability: random.pick(&[0, 1, 1, 255]),
+        capability: random.pick(&[0, 1, 1]),
         next: NextNumbers::of(record),
     }
 }
 
 /// An intent of either kind at the end of history; the record is not read.
 fn at_end(random: &mut Random, record: RecordNumbers) -> Call {
-    let next = ended(random, record);
+    let next = ended(record);
     if random.one_in(2) {
         return Call::Intent {
             request: request_of(&record),
@@ -114,11 +114,8 @@ fn at_end(random: &mut Random, record: RecordNumbers) -> Call {
     }
 }
 
-fn ended(random: &mut Random, record: RecordNumbers) -> NextNumbers {
-    NextNumbers {
-        ended: random.pick(&[1, 2, 128, 255]),
-        record,
-    }
+fn ended(record: RecordNumbers) -> NextNumbers {
+    NextNumbers { ended: 1, record }
 }
 
 /// An outcome of either kind where none is awaited.
@@ -135,7 +132,7 @@ fn at_effect(random: &mut Random, right: u32) -> Call {
     let kind = random.pick(&[3, 4]);
     let record = at_random(random, kind, right);
     match random.below(5) {
-        0 => Call::Outcome(ended(random, record)),
+        0 => Call::Outcome(ended(record)),
         1 => Call::TimerOutcome(NextNumbers::of(record)),
         2 | 3 => Call::Outcome(NextNumbers::of(record)),
         _ => Call::MachineAdvance(record),
@@ -146,7 +143,7 @@ fn at_effect(random: &mut Random, right: u32) -> Call {
 fn at_timer(random: &mut Random, right: u32) -> Call {
     let record = at_random(random, 6, right);
     match random.below(5) {
-        0 => Call::TimerOutcome(ended(random, record)),
+        0 => Call::TimerOutcome(ended(record)),
         1 => Call::Outcome(NextNumbers::of(record)),
         2 | 3 => Call::TimerOutcome(NextNumbers::of(record)),
         _ => Call::MachineAdvance(record),
@@ -168,7 +165,7 @@ fn any(random: &mut Random, right: u32) -> Call {
 /// Any call with the record next. What is asked for differs from it half of the time.
 fn call_with(random: &mut Random, record: RecordNumbers) -> Call {
     let next = match random.below(4) {
-        0 => ended(random, record),
+        0 => ended(record),
         _ => NextNumbers::of(record),
     };
     match random.below(5) {
@@ -179,7 +176,7 @@ fn call_with(random: &mut Random, record: RecordNumbers) -> Call {
         },
         2 => Call::TimerIntent {
             spec: spec_near(random, &record),
-            capability: random.pick(&[0, 1, 255]),
+            capability: random.pick(&[0, 1]),
             next,
         },
         3 => Call::Outcome(next),
@@ -206,17 +203,18 @@ fn request_near(random: &mut Random, record: &RecordNumbers) -> RequestNumbers {
     request
 }
 
+/// The spec of that record. Where its clock has none, one on clock 2.
 fn spec_of(record: &RecordNumbers) -> SpecNumbers {
     SpecNumbers {
         deadline: record.d,
-        clock: record.clock,
+        clock: if record.clock == 1 { 1 } else { 2 },
     }
 }
 
 fn spec_near(random: &mut Random, record: &RecordNumbers) -> SpecNumbers {
     let mut spec = spec_of(record);
     match random.below(4) {
-        0 => spec.clock = random.pick(&[0, 1, 2, 255]),
+        0 => spec.clock = random.pick(&[1, 2]),
         1 => spec.deadline = random.near(spec.deadline),
         _ => {}
     }

@@ -18,6 +18,7 @@ mod numbering;
 mod proved_side;
 mod random;
 mod records;
+mod refused;
 mod rust_machine;
 mod rust_side;
 mod scripts;
@@ -61,6 +62,7 @@ pub struct Settings {
     pub random_timers: u64,
     pub long_runs: u64,
     pub long_scripts: u64,
+    pub mixed_numbers: u64,
     deep: bool,
 }
 
@@ -75,6 +77,7 @@ impl Settings {
             random_timers: 4_000_000,
             long_runs: 2_000,
             long_scripts: 1_000,
+            mixed_numbers: 200_000,
             deep: false,
         }
     }
@@ -89,6 +92,7 @@ impl Settings {
             random_timers: 20 * usual.random_timers,
             long_runs: 20 * usual.long_runs,
             long_scripts: 20 * usual.long_scripts,
+            mixed_numbers: 20 * usual.mixed_numbers,
             deep: true,
             ..usual
         }
@@ -102,11 +106,12 @@ struct Part {
     only_deep: bool,
 }
 
-const PARTS: [Part; 10] = [
+const PARTS: [Part; 11] = [
     usual("ids and allocators", ids::run),
     usual("timers", timers::run),
     usual("divergence", divergence::run),
     usual("the calls of --vectors", vectors::run),
+    usual("numbers that name nothing", refused::run),
     usual("cursors, every sequence", exhaustive::run),
     usual("cursors, long sequences at random", long_runs::run),
     usual("machines, every script", scripts::run),

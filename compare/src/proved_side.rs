@@ -32,7 +32,7 @@ impl ProvedSide {
                 committed,
                 last,
             } => {
-                self.ids = hiskurdo_ids_resume(run, committed, last);
+                self.ids = hiskurdo_ids_resume(run, committed, last).ids;
                 Answer::Ids(self.read_ids())
             }
             Call::Allocate => {
@@ -49,7 +49,7 @@ impl ProvedSide {
             }
             Call::Advance(record) => Answer::Advanced {
                 answer: self.advance(&record),
-                kind: hiskurdo_record_kind(record),
+                kind: value(hiskurdo_record_kind(record)) as u8,
                 cursor: self.read_cursor(),
             },
             Call::NewMachine { run } => {
@@ -110,9 +110,9 @@ impl ProvedSide {
 
     pub fn read_cursor(&self) -> CursorRead {
         CursorRead {
-            run: hiskurdo_cursor_run(self.cursor),
+            run: value(hiskurdo_cursor_run(self.cursor)),
             position: hiskurdo_cursor_position(self.cursor),
-            is_terminal: hiskurdo_cursor_is_terminal(self.cursor),
+            is_terminal: value(hiskurdo_cursor_is_terminal(self.cursor)) as u8,
             pending: hiskurdo_cursor_pending(self.cursor),
             pending_timer: hiskurdo_cursor_pending_timer(self.cursor),
             next_seq: hiskurdo_cursor_next_seq(self.cursor),
@@ -122,33 +122,39 @@ impl ProvedSide {
 
     fn read_ids(&self) -> IdsRead {
         IdsRead {
-            run: hiskurdo_ids_run(self.ids),
+            run: value(hiskurdo_ids_run(self.ids)),
             peek: hiskurdo_ids_peek(self.ids),
         }
     }
 
     pub fn read_machine(&self) -> MachineRead {
         MachineRead {
-            run: hiskurdo_machine_run(self.machine),
+            run: value(hiskurdo_machine_run(self.machine)),
             position: hiskurdo_machine_position(self.machine),
             pending: hiskurdo_machine_pending(self.machine),
             pending_timer: hiskurdo_machine_pending_timer(self.machine),
-            diverged: hiskurdo_machine_diverged(self.machine),
+            diverged: value(hiskurdo_machine_diverged(self.machine)) as u8,
         }
     }
+}
+
+/// An answer that is one value. No part that compares with the Rust passes a number that names nothing.
+fn value(told: Told) -> u64 {
+    assert_eq!(told.number, 0, "a listed number was refused");
+    told.a
 }
 
 fn timer_answer(call: &Call) -> Answer {
     match *call {
         Call::Spec(spec) => Answer::Spec {
-            clock: hiskurdo_spec_clock_kind(spec),
-            deadline: hiskurdo_spec_deadline(spec),
+            clock: value(hiskurdo_spec_clock_kind(spec)) as u8,
+            deadline: value(hiskurdo_spec_deadline(spec)),
         },
         Call::RearmedAt {
             spec,
             recorded,
             now,
-        } => Answer::Number(hiskurdo_spec_rearmed_at(spec, recorded, now)),
+        } => Answer::Number(value(hiskurdo_spec_rearmed_at(spec, recorded, now))),
         Call::Recorded { clock, deadline } => Answer::Told(hiskurdo_spec_recorded(clock, deadline)),
         Call::Admits { capability, spec } => Answer::Told(hiskurdo_admits(capability, spec)),
         Call::Arm {

@@ -111,7 +111,8 @@ fn request_of(request: RequestNumbers) -> EffectRequest {
 fn next_of(next: &NextNumbers) -> Next<'static> {
     match next.ended {
         0 => Next::Record(record_of(&next.record)),
-        _ => Next::EndOfHistory,
+        1 => Next::EndOfHistory,
+        ended => unreachable!("no flag is {ended}"),
     }
 }
 

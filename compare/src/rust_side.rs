@@ -192,16 +192,18 @@ pub fn spec_of(spec: SpecNumbers) -> TimerSpec {
         1 => TimerSpec::AfterBoot {
             ticks: spec.deadline,
         },
-        _ => TimerSpec::AtPersistentTime {
+        2 => TimerSpec::AtPersistentTime {
             instant: spec.deadline,
         },
+        clock => unreachable!("no spec has the clock {clock}"),
     }
 }
 
 pub fn capability_of(capability: u8) -> ClockCapability {
     match capability {
         0 => ClockCapability::BootOnly,
-        _ => ClockCapability::Persistent,
+        1 => ClockCapability::Persistent,
+        _ => unreachable!("no capability is {capability}"),
     }
 }
 

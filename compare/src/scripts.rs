@@ -58,7 +58,7 @@ fn wrong(right: u32, kinds: &[u8]) -> Vec<RecordNumbers> {
 fn with_ends(records: Vec<RecordNumbers>) -> Vec<NextNumbers> {
     let mut nexts = vec![NextNumbers::end()];
     nexts.push(NextNumbers {
-        ended: 255,
+        ended: 1,
         record: records[0],
     });
     nexts.extend(records.into_iter().map(NextNumbers::of));

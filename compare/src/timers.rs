@@ -7,10 +7,8 @@ use crate::ffi::SpecNumbers;
 use crate::random::Random;
 use crate::values;
 
-/// The two clocks, and numbers that stand for the second one.
-const CLOCKS: [u8; 5] = [1, 2, 0, 3, 255];
-/// The two capabilities, and numbers that stand for the second one.
-const CAPABILITIES: [u8; 4] = [0, 1, 2, 255];
+const CLOCKS: [u8; 2] = [1, 2];
+const CAPABILITIES: [u8; 2] = [0, 1];
 
 pub fn run(settings: &Settings, both: &mut Both) {
     recorded(both);

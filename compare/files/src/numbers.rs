@@ -180,15 +180,17 @@ fn kept(format: Format, entry: &Entry) -> [u64; 5] {
         (Format::Journal, 7 | 8) => [0, 0, 0, 0, entry.m],
         (Format::Journal, _) => [0, a, s, low16, 0],
         (Format::Plan, 2) => [0, a, 0, low16, low32],
-        (Format::Plan, _) => [if clock == 1 { 1 } else { 2 }, 0, 0, entry.d, 0],
+        (Format::Plan, _) => [clock, 0, 0, entry.d, 0],
     }
 }
 
-/// Whether an entry has a body, and its length; nothing for a kind that the format has not.
+/// Whether an entry has a body, and its length; nothing for a kind that the format has not, and
+/// for a plan's timer whose clock has no spec.
 fn body_length(format: Format, entry: &Entry) -> Option<(bool, u64)> {
     match (format, entry.kind) {
         (Format::Journal, 1 | 3 | 4 | 7 | 8) => Some((true, entry.m)),
-        (Format::Journal, 2 | 5 | 6 | 9) | (Format::Plan, 5) => Some((false, 0)),
+        (Format::Journal, 2 | 5 | 6 | 9) => Some((false, 0)),
+        (Format::Plan, 5) if matches!(entry.clock, 1 | 2) => Some((false, 0)),
         (Format::Plan, 2) => Some((true, entry.d)),
         _ => None,
     }

@@ -3,7 +3,7 @@
 // Owns: TimerSpec, ClockCapability, Timer, Deadline. Must not own: a clock; every reading is an argument.
 // Defends: a persistent deadline is refused where there is no persistent clock, never read as a boot deadline.
 ghost use mathlib.Core.Path.{_≡_};
-ghost use Rattle.clocks.specs.Specs.{specClock, specDeadline, specOf, rearmedAt, recordedSpec, capabilityOf};
+ghost use Rattle.clocks.specs.Specs.{specClock, specDeadline, rearmedAt, recordedSpec, capabilityOf};
 ghost use Rattle.clocks.specs.Timers.{admission, armed, lackingOf, evaluation};
 ghost use Rattle.clocks.specs.Told.{timerSpecOptionTold, admitsResultTold, timerResultTold, deadlineResultTold};
 use errors::KernelError;
@@ -70,24 +70,18 @@ impl TimerSpec {
         }
         TimerSpecOption::None
     }
-
-    // The spec with this deadline, where the clock is known to be one of the two: any but `AFTER_BOOT` is persistent.
-    pub fn on(clock_kind: ClockKind, deadline: u64) -> TimerSpec
-        ensures { λ r. ⌜ r ≡ specOf («clock_kind» .0) deadline ⌝ }
-    {
-        let boot = ClockKind::AFTER_BOOT;
-        if clock_kind.0 == boot.0 {
-            TimerSpec::AfterBoot { ticks: deadline }
-        } else {
-            TimerSpec::AtPersistentTime { instant: deadline }
-        }
-    }
 }
 
 // Which clocks a board has.
 pub enum ClockCapability {
     BootOnly,
     Persistent,
+}
+
+// A capability, or none where a number names none.
+pub enum ClockCapabilityOption {
+    Some(ClockCapability),
+    None,
 }
 
 // Result<(), KernelError> in the Rust.
@@ -97,15 +91,17 @@ pub enum AdmitsResult {
 }
 
 impl ClockCapability {
-    // The capability with this number: 0 is `BootOnly`, any other `Persistent`.
-    pub fn of(number: u64) -> ClockCapability
+    // The capability with this number: 0 is `BootOnly`, 1 `Persistent`, no other names one.
+    pub fn of(number: u64) -> ClockCapabilityOption
         ensures { λ r. ⌜ r ≡ capabilityOf number ⌝ }
     {
         if number == 0 {
-            ClockCapability::BootOnly
-        } else {
-            ClockCapability::Persistent
+            return ClockCapabilityOption::Some(ClockCapability::BootOnly);
         }
+        if number == 1 {
+            return ClockCapabilityOption::Some(ClockCapability::Persistent);
+        }
+        ClockCapabilityOption::None
     }
 
     // Whether a board can time a spec.

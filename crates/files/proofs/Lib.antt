@@ -1,6 +1,7 @@
 pub mod Bytes
 pub mod Checks
 pub mod Limits
+pub mod Said
 pub mod Header
 pub mod Steps
 pub mod Passing

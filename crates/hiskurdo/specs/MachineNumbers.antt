@@ -1,34 +1,32 @@
--- The machine at the boundary to C and Rust: its values as plain numbers, both ways.
-use Prim.Native.Nat.{ℕ}
-use mathlib.Core.Bool.{cond}
-use lib.Dec.{eqb}
+-- The machine at the boundary to C and Rust: its values as plain numbers, and its calls.
 use Rattle.errors.specs.declared.Told.{Told}
-use Rattle.clocks.specs.Specs.{capabilityOf}
+use Rattle.records.specs.declared.RecordRefOption.{RecordRefOption}
+use Rattle.records.specs.declared.RecordRefOption.the-variants as RecordRefOption
 use Rattle.cursor.specs.declared.PendingEffect.{PendingEffect}
-use Rattle.machine.specs.declared.Divergence.{Divergence}
-use Rattle.machine.specs.declared.Divergence.the-variants as Divergence
+use Rattle.answers.specs.CursorTold.{stepResultTold}
 use Rattle.machine.specs.declared.EffectRequest.{EffectRequest}
 use Rattle.machine.specs.declared.TimerRequest.{TimerRequest}
 use Rattle.machine.specs.declared.Next.{Next}
-use Rattle.machine.specs.declared.Next.the-variants as Next
 use Rattle.machine.specs.declared.Phase.{Phase}
 use Rattle.machine.specs.declared.Phase.the-variants as Phase
 use Rattle.machine.specs.declared.ReplayMachine.{ReplayMachine}
 use Rattle.machine.specs.Divergences.{divergenceNumber}
-use Rattle.hiskurdo.specs.declared.SpecNumbers.{SpecNumbers}
-use Rattle.hiskurdo.specs.declared.RecordNumbers.{RecordNumbers}
+use Rattle.machine.specs.Phases.{advanceRule}
 use Rattle.hiskurdo.specs.declared.CursorNumbers.{CursorNumbers}
 use Rattle.hiskurdo.specs.declared.machines.RequestNumbers.{RequestNumbers}
 use Rattle.hiskurdo.specs.declared.machines.PendingNumbers.{PendingNumbers}
 use Rattle.hiskurdo.specs.declared.machines.MachineNumbers.{MachineNumbers}
 use Rattle.hiskurdo.specs.declared.machines.MachineAnswered.{MachineAnswered}
-use Rattle.hiskurdo.specs.Numbers.{specOf, recordOf, cursorOf, cursorNumbers}
+use Rattle.hiskurdo.specs.declared.given.MachineOption.{MachineOption}
+use Rattle.hiskurdo.specs.declared.given.MachineOption.the-variants as MachineOption
+use Rattle.hiskurdo.specs.declared.given.TurnOption.{TurnOption}
+use Rattle.hiskurdo.specs.declared.given.TurnOption.the-variants as TurnOption
+use Rattle.hiskurdo.specs.declared.given.TimerRequestOption.{TimerRequestOption}
+use Rattle.hiskurdo.specs.declared.given.TimerRequestOption.the-variants as TimerRequestOption
+use Rattle.hiskurdo.specs.Numbers.{unnamed, cursorNumbers}
 
 abbrev pub requestOf : RequestNumbers → EffectRequest
 requestOf n = record { kind = record { 0 = n .kind }; «input_len» = n .«input_len»; «input_crc» = n .«input_crc» }
-
-abbrev pub timerRequestOf : SpecNumbers → ℕ → TimerRequest
-timerRequestOf spec capability = record { spec = specOf spec; capability = capabilityOf capability }
 
 abbrev pub pendingFrom : PendingNumbers → PendingEffect
 pendingFrom n =
@@ -38,30 +36,6 @@ pendingFrom n =
       «input_len» = n .«input_len»;
       «input_crc» = n .«input_crc»;
     }
-
--- 0: the record; any other flag: the end of history
-abbrev pub nextOf : ℕ → RecordNumbers → Next
-nextOf ended x = cond (eqb ended 0) (Next.Record (recordOf x)) Next.EndOfHistory
-
--- the divergence with the number n; a number that is none of them is taken for 7
-abbrev pub divergenceOf : ℕ → Divergence
-divergenceOf n =
-    cond (eqb n 1) Divergence.Sequence
-    (cond (eqb n 2) Divergence.Kind
-    (cond (eqb n 3) Divergence.Digest
-    (cond (eqb n 4) Divergence.BoundaryKind
-    (cond (eqb n 5) Divergence.Gate
-    (cond (eqb n 6) Divergence.Deadline Divergence.Boundary)))))
-
--- the phase by its place among the phases, with its divergence
-abbrev pub phaseOf : ℕ → ℕ → Phase
-phaseOf phase divergence =
-    cond (eqb phase 0) Phase.Settled
-    (cond (eqb phase 1) Phase.AwaitingOutcome
-    (cond (eqb phase 2) Phase.AwaitingFiring (Phase.Diverged (divergenceOf divergence))))
-
-abbrev pub machineOf : MachineNumbers → ReplayMachine
-machineOf n = record { cursor = cursorOf (n .cursor); phase = phaseOf (n .phase) (n .divergence) }
 
 abbrev pub machineNumbersFor : CursorNumbers → Phase → MachineNumbers
 machineNumbersFor c Phase.Settled = record { cursor = c; phase = 0; divergence = 0 }
@@ -74,3 +48,28 @@ machineNumbers m = machineNumbersFor (cursorNumbers (m .cursor)) (m .phase)
 
 abbrev pub answered : ReplayMachine → Told → MachineAnswered
 answered m told = record { machine = machineNumbers m; answer = told }
+
+-- what is said of the machine that the numbers name; where they name none, 60
+abbrev pub ofMachine : (ReplayMachine → Told) → MachineOption → Told
+ofMachine says (MachineOption.Some m) = says m
+ofMachine says MachineOption.None = unnamed
+
+-- where a number names nothing, the machine's numbers are given back as they were given, with 60
+abbrev pub machineKept : MachineNumbers → MachineAnswered
+machineKept given = record { machine = given; answer = unnamed }
+
+abbrev pub advancedBy : MachineNumbers → MachineOption → RecordRefOption → MachineAnswered
+advancedBy given (MachineOption.Some m) (RecordRefOption.Some x) =
+    answered (advanceRule m x .machine) (stepResultTold (advanceRule m x .answer))
+advancedBy given (MachineOption.Some m) RecordRefOption.None = machineKept given
+advancedBy given MachineOption.None x = machineKept given
+
+-- a call with the record or the end of history
+abbrev pub calledBy : MachineNumbers → (ReplayMachine → Next → MachineAnswered) → TurnOption → MachineAnswered
+calledBy given call (TurnOption.Some m next) = call m next
+calledBy given call TurnOption.None = machineKept given
+
+-- a timer's request besides
+abbrev pub requestedBy : MachineNumbers → (TimerRequest → MachineAnswered) → TimerRequestOption → MachineAnswered
+requestedBy given call (TimerRequestOption.Some request) = call request
+requestedBy given call TimerRequestOption.None = machineKept given

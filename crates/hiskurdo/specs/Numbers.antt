@@ -1,37 +1,74 @@
--- The boundary to C and Rust: values as plain numbers, both ways.
+-- The boundary to C and Rust: values as plain numbers, and what is answered where a given number names nothing.
 use Prim.Native.Nat.{ℕ}
-use mathlib.Core.Bool.{cond}
-use lib.Dec.{eqb}
-use Rattle.errors.specs.declared.KernelError.{KernelError}
-use Rattle.errors.specs.declared.KernelError.the-variants as KernelError
+use Rattle.errors.specs.declared.Told.{Told}
 use Rattle.errors.specs.Errors.{errorNumber}
+use Rattle.errors.specs.Told.{told0}
 use Rattle.ids.specs.declared.SeqOption.{SeqOption}
 use Rattle.ids.specs.declared.SeqOption.the-variants as SeqOption
 use Rattle.ids.specs.declared.EffectIdAllocator.{EffectIdAllocator}
 use Rattle.ids.specs.declared.Allocated.{Allocated}
+use Rattle.ids.specs.Allocator.{resumed, allocation}
 use Rattle.ids.specs.Told.{effectIdResultTold}
+use Rattle.clocks.specs.declared.ClockCapability.{ClockCapability}
+use Rattle.clocks.specs.declared.ClockCapabilityOption.{ClockCapabilityOption}
+use Rattle.clocks.specs.declared.ClockCapabilityOption.the-variants as ClockCapabilityOption
 use Rattle.clocks.specs.declared.TimerSpec.{TimerSpec}
-use Rattle.clocks.specs.Specs as Specs
+use Rattle.clocks.specs.declared.TimerSpecOption.{TimerSpecOption}
+use Rattle.clocks.specs.declared.TimerSpecOption.the-variants as TimerSpecOption
 use Rattle.records.specs.declared.RecordRef.{RecordRef}
-use Rattle.records.specs.Fields.{recordBy}
+use Rattle.records.specs.declared.RecordRefOption.{RecordRefOption}
+use Rattle.records.specs.declared.RecordRefOption.the-variants as RecordRefOption
 use Rattle.cursor.specs.declared.State.{State}
 use Rattle.cursor.specs.declared.State.the-variants as State
 use Rattle.cursor.specs.declared.ReplayCursor.{ReplayCursor}
 use Rattle.cursor.specs.declared.Advanced.{Advanced}
+use Rattle.cursor.specs.Advance.{advanceRule}
 use Rattle.answers.specs.CursorTold.{stepResultTold}
 use Rattle.hiskurdo.specs.declared.IdsNumbers.{IdsNumbers}
 use Rattle.hiskurdo.specs.declared.AllocatedNumbers.{AllocatedNumbers}
-use Rattle.hiskurdo.specs.declared.SpecNumbers.{SpecNumbers}
-use Rattle.hiskurdo.specs.declared.RecordNumbers.{RecordNumbers}
 use Rattle.hiskurdo.specs.declared.CursorNumbers.{CursorNumbers}
 use Rattle.hiskurdo.specs.declared.AdvancedNumbers.{AdvancedNumbers}
+use Rattle.hiskurdo.specs.declared.given.OfferOption.{OfferOption}
+use Rattle.hiskurdo.specs.declared.given.OfferOption.the-variants as OfferOption
+use Rattle.hiskurdo.specs.declared.given.IdsOption.{IdsOption}
+use Rattle.hiskurdo.specs.declared.given.IdsOption.the-variants as IdsOption
+use Rattle.hiskurdo.specs.declared.given.CursorOption.{CursorOption}
+use Rattle.hiskurdo.specs.declared.given.CursorOption.the-variants as CursorOption
 
--- 0: none; any other flag: the number
-abbrev pub seqOptionOf : ℕ → ℕ → SeqOption
-seqOptionOf some n = cond (eqb some 0) SeqOption.None (SeqOption.Some (record { 0 = n }))
+-- the refusal of this boundary, "a number here names nothing", which neither 01 nor 02 numbers
+abbrev pub namesNothing : ℕ
+namesNothing = 60
 
-abbrev pub idsOf : IdsNumbers → EffectIdAllocator
-idsOf n = record { run = record { 0 = n .run }; next = seqOptionOf (n .offers) (n .next) }
+abbrev pub unnamed : Told
+unnamed = told0 namesNothing
+
+-- what is said of the value that the numbers name; where they name none, 60
+abbrev pub ofIds : (EffectIdAllocator → Told) → IdsOption → Told
+ofIds says (IdsOption.Some ids) = says ids
+ofIds says IdsOption.None = unnamed
+
+abbrev pub ofSpec : (TimerSpec → Told) → TimerSpecOption → Told
+ofSpec says (TimerSpecOption.Some spec) = says spec
+ofSpec says TimerSpecOption.None = unnamed
+
+abbrev pub ofBoard : (ClockCapability → Told) → ClockCapabilityOption → Told
+ofBoard says (ClockCapabilityOption.Some board) = says board
+ofBoard says ClockCapabilityOption.None = unnamed
+
+abbrev pub ofRecord : (RecordRef → Told) → RecordRefOption → Told
+ofRecord says (RecordRefOption.Some x) = says x
+ofRecord says RecordRefOption.None = unnamed
+
+abbrev pub ofCursor : (ReplayCursor → Told) → CursorOption → Told
+ofCursor says (CursorOption.Some c) = says c
+ofCursor says CursorOption.None = unnamed
+
+-- where a number names nothing, the numbers of the state are given back as they were given, with 60
+abbrev pub idsKept : IdsNumbers → AllocatedNumbers
+idsKept given = record { ids = given; answer = unnamed }
+
+abbrev pub cursorKept : CursorNumbers → AdvancedNumbers
+cursorKept given = record { cursor = given; answer = unnamed }
 
 abbrev pub idsNumbersFor : ℕ → SeqOption → IdsNumbers
 idsNumbersFor run (SeqOption.Some seq) = record { run = run; next = seq .0; offers = 1 }
@@ -43,51 +80,15 @@ idsNumbers ids = idsNumbersFor (ids .run .0) (ids .next)
 abbrev pub allocatedNumbers : Allocated → AllocatedNumbers
 allocatedNumbers a = record { ids = idsNumbers (a .ids); answer = effectIdResultTold (a .answer) }
 
-abbrev pub specOf : SpecNumbers → TimerSpec
-specOf n = Specs.specOf (n .clock) (n .deadline)
+abbrev pub allocatedBy : IdsNumbers → IdsOption → AllocatedNumbers
+allocatedBy given (IdsOption.Some ids) = allocatedNumbers (allocation ids)
+allocatedBy given IdsOption.None = idsKept given
 
--- the refusal with the number n; a number that is none of them is taken for 21
-abbrev pub errorOf : ℕ → KernelError
-errorOf n =
-    cond (eqb n 22) KernelError.NondeterministicWorkflow
-    (cond (eqb n 23) KernelError.IncompatibleWorkflow
-    (cond (eqb n 24) KernelError.MalformedHistory
-    (cond (eqb n 25) KernelError.NoPersistentClock
-    (cond (eqb n 26) KernelError.ClockWentBackwards KernelError.IdExhausted))))
-
--- a record by the fields of a journal entry, its body m bytes from start
-abbrev pub recordOf : RecordNumbers → RecordRef
-recordOf n = recordBy (n .kind) (n .clock) (n .a) (n .s) (n .d) (n .m) (record { start = n .start; len = n .m })
-
--- the position by its place among the positions, with what it holds
-abbrev pub stateAt : ℕ → CursorNumbers → State
-stateAt position n =
-    cond (eqb position 0) State.BeforeRun
-    (cond (eqb position 1) State.Replaying
-    (cond (eqb position 2)
-    (State.AwaitingOutcome
-    (record {
-      seq = record { 0 = n .seq };
-      kind = record { 0 = n .kind };
-      «input_len» = n .«input_len»;
-      «input_crc» = n .«input_crc»;
-    }))
-    (cond (eqb position 3)
-    (State.AwaitingTimer
-    (record {
-      seq = record { 0 = n .seq };
-      «clock_kind» = record { 0 = n .«clock_kind» };
-      deadline = n .deadline;
-      «armed_at» = n .«armed_at»;
-    }))
-    (cond (eqb position 4) State.RunCompleted
-    (cond (eqb position 5) State.RunFailed (State.Halted (errorOf (n .«error»))))))))
-
-abbrev pub stateOf : CursorNumbers → State
-stateOf n = stateAt (n .position) n
-
-abbrev pub cursorOf : CursorNumbers → ReplayCursor
-cursorOf n = record { ids = idsOf (n .ids); state = stateOf n }
+-- the allocator that goes on after what was committed, with 0
+abbrev pub resumedBy : IdsNumbers → OfferOption → AllocatedNumbers
+resumedBy given (OfferOption.Some last) =
+    record { ids = idsNumbers (resumed (record { 0 = given .run }) last); answer = told0 0 }
+resumedBy given OfferOption.None = idsKept given
 
 -- a cursor that holds nothing open; its error is 0 unless it has halted
 abbrev pub bare : IdsNumbers → ℕ → ℕ → CursorNumbers
@@ -144,3 +145,8 @@ cursorNumbers c = cursorNumbersFor (idsNumbers (c .ids)) (c .state)
 
 abbrev pub advancedNumbers : Advanced → AdvancedNumbers
 advancedNumbers a = record { cursor = cursorNumbers (a .cursor); answer = stepResultTold (a .answer) }
+
+abbrev pub advancedBy : CursorNumbers → CursorOption → RecordRefOption → AdvancedNumbers
+advancedBy given (CursorOption.Some c) (RecordRefOption.Some x) = advancedNumbers (advanceRule c x)
+advancedBy given (CursorOption.Some c) RecordRefOption.None = cursorKept given
+advancedBy given CursorOption.None x = cursorKept given

@@ -1,7 +1,7 @@
 // The machine for C and Rust.
 ghost use mathlib.Core.Path.{_≡_};
 ghost use Rattle.cursor.specs.Readers.{positionOf, pendingOf, pendingTimerOf};
-ghost use Rattle.answers.specs.CursorTold.{positionTold, pendingEffectOptionTold, pendingTimerOptionTold, stepResultTold};
+ghost use Rattle.answers.specs.CursorTold.{positionTold, pendingEffectOptionTold, pendingTimerOptionTold};
 ghost use Rattle.machine.specs.Phases as Phases;
 ghost use Rattle.machine.specs.Divergences.{divergenceOptionNumber, effectDivergence};
 ghost use Rattle.machine.specs.Effects.{intentRule, outcomeRule};
@@ -12,36 +12,38 @@ ghost use Rattle.answers.specs.MachineTold.{
   timerIntentResultTold,
   timerResolveResultTold,
 };
-ghost use Rattle.hiskurdo.specs.Numbers.{recordOf};
+ghost use Rattle.errors.specs.Told.{told1};
+ghost use Rattle.hiskurdo.specs.Given.{recordOf, machineOf, turnOf, timerRequestOf};
 ghost use Rattle.hiskurdo.specs.MachineNumbers.{
   requestOf,
-  timerRequestOf,
   pendingFrom,
-  nextOf,
-  divergenceOf,
-  phaseOf,
-  machineOf,
   machineNumbersFor,
   machineNumbers,
   answered,
+  ofMachine,
+  machineKept,
+  advancedBy,
+  calledBy,
+  requestedBy,
 };
 use crate::CursorNumbers;
 use crate::RecordNumbers;
 use crate::SpecNumbers;
+use crate::given;
+use crate::given::MachineOption;
+use crate::given::TimerRequestOption;
+use crate::given::TurnOption;
 use answers::machines as told;
-use clocks::ClockCapability;
 use cursor::PendingEffect;
 use errors::Told;
 use ids::ActivityKind;
 use ids::EffectId;
 use ids::EffectSeq;
 use ids::RunId;
-use machine::Divergence;
 use machine::EffectRequest;
-use machine::Next;
 use machine::Phase;
 use machine::ReplayMachine;
-use machine::TimerRequest;
+use records::RecordRefOption;
 
 // An effect as it is asked for.
 #[repr(C)]
@@ -61,7 +63,7 @@ pub struct PendingNumbers {
     pub input_len: u16,
 }
 
-// A machine: `phase` is its place among the phases; `divergence` is 0 unless it has diverged.
+// A machine: `phase` is its place among the phases; `divergence` is 0 unless it has diverged, and then 1 to 7.
 #[repr(C)]
 pub struct MachineNumbers {
     pub cursor: CursorNumbers,
@@ -103,39 +105,55 @@ pub extern "C" fn hiskurdo_machine_new(run: u64) -> MachineNumbers
 }
 
 #[no_mangle]
-pub extern "C" fn hiskurdo_machine_run(machine: MachineNumbers) -> u64
-    ensures { λ r. ⌜ r ≡ machineOf machine .cursor .ids .run .0 ⌝ }
+pub extern "C" fn hiskurdo_machine_run(machine: MachineNumbers) -> Told
+    ensures { λ r. ⌜ r ≡ ofMachine (λ m. told1 0 (m .cursor .ids .run .0)) (machineOf machine) ⌝ }
 {
-    machine_of(machine).run().0
+    match given::machine_of(machine) {
+        MachineOption::Some(m) => crate::value(m.run().0),
+        MachineOption::None => crate::names_nothing(),
+    }
 }
 
 #[no_mangle]
 pub extern "C" fn hiskurdo_machine_position(machine: MachineNumbers) -> Told
-    ensures { λ r. ⌜ r ≡ positionTold (positionOf (machineOf machine .cursor .state)) ⌝ }
+    ensures { λ r. ⌜ r ≡ ofMachine (λ m. positionTold (positionOf (m .cursor .state))) (machineOf machine) ⌝ }
 {
-    answers::position_told(machine_of(machine).position())
+    match given::machine_of(machine) {
+        MachineOption::Some(m) => answers::position_told(m.position()),
+        MachineOption::None => crate::names_nothing(),
+    }
 }
 
 #[no_mangle]
 pub extern "C" fn hiskurdo_machine_pending(machine: MachineNumbers) -> Told
-    ensures { λ r. ⌜ r ≡ pendingEffectOptionTold (pendingOf (machineOf machine .cursor .ids .run) (machineOf machine .cursor .state)) ⌝ }
+    ensures { λ r. ⌜ r ≡
+        ofMachine (λ m. pendingEffectOptionTold (pendingOf (m .cursor .ids .run) (m .cursor .state))) (machineOf machine) ⌝ }
 {
-    answers::pending_effect_told(machine_of(machine).pending())
+    match given::machine_of(machine) {
+        MachineOption::Some(m) => answers::pending_effect_told(m.pending()),
+        MachineOption::None => crate::names_nothing(),
+    }
 }
 
 #[no_mangle]
 pub extern "C" fn hiskurdo_machine_pending_timer(machine: MachineNumbers) -> Told
     ensures { λ r. ⌜ r ≡
-        pendingTimerOptionTold (pendingTimerOf (machineOf machine .cursor .ids .run) (machineOf machine .cursor .state)) ⌝ }
+        ofMachine (λ m. pendingTimerOptionTold (pendingTimerOf (m .cursor .ids .run) (m .cursor .state))) (machineOf machine) ⌝ }
 {
-    answers::pending_timer_told(machine_of(machine).pending_timer())
+    match given::machine_of(machine) {
+        MachineOption::Some(m) => answers::pending_timer_told(m.pending_timer()),
+        MachineOption::None => crate::names_nothing(),
+    }
 }
 
 #[no_mangle]
-pub extern "C" fn hiskurdo_machine_diverged(machine: MachineNumbers) -> u8
-    ensures { λ r. ⌜ r ≡ divergenceOptionNumber (Phases.divergedIn (machineOf machine .phase)) ⌝ }
+pub extern "C" fn hiskurdo_machine_diverged(machine: MachineNumbers) -> Told
+    ensures { λ r. ⌜ r ≡ ofMachine (λ m. told1 0 (divergenceOptionNumber (Phases.divergedIn (m .phase)))) (machineOf machine) ⌝ }
 {
-    machine_of(machine).diverged().number()
+    match given::machine_of(machine) {
+        MachineOption::Some(m) => crate::value(m.diverged().number() as u64),
+        MachineOption::None => crate::names_nothing(),
+    }
 }
 
 #[no_mangle]
@@ -143,13 +161,19 @@ pub extern "C" fn hiskurdo_machine_advance(
     machine: MachineNumbers,
     record: RecordNumbers,
 ) -> MachineAnswered
-    ensures { λ r. ⌜ r ≡
-        answered (Phases.advanceRule (machineOf machine) (recordOf «record») .machine)
-        (stepResultTold (Phases.advanceRule (machineOf machine) (recordOf «record») .answer)) ⌝ }
+    ensures { λ r. ⌜ r ≡ advancedBy machine (machineOf machine) (recordOf «record») ⌝ }
 {
-    let done = machine_of(machine).advance(crate::record_of(record));
-    let answer = done.answer;
-    answered(done.machine, answers::step_result_told(answer))
+    match given::machine_of(machine) {
+        MachineOption::Some(m) => match given::record_of(record) {
+            RecordRefOption::Some(x) => {
+                let done = m.advance(x);
+                let answer = done.answer;
+                return answered(done.machine, answers::step_result_told(answer));
+            }
+            RecordRefOption::None => return machine_kept(machine),
+        },
+        MachineOption::None => return machine_kept(machine),
+    }
 }
 
 #[no_mangle]
@@ -160,12 +184,19 @@ pub extern "C" fn hiskurdo_machine_intent(
     record: RecordNumbers,
 ) -> MachineAnswered
     ensures { λ r. ⌜ r ≡
-        answered (intentRule (machineOf machine) (requestOf request) (nextOf ended «record») .machine)
-        (intentResultTold (intentRule (machineOf machine) (requestOf request) (nextOf ended «record») .answer)) ⌝ }
+        calledBy machine
+        (λ m next.
+        answered (intentRule m (requestOf request) next .machine) (intentResultTold (intentRule m (requestOf request) next .answer)))
+        (turnOf machine ended «record») ⌝ }
 {
-    let done = machine_of(machine).intent(request_of(request), next_of(ended, record));
-    let answer = done.answer;
-    answered(done.machine, told::intent_result_told(answer))
+    match given::turn_of(machine, ended, record) {
+        TurnOption::Some { machine: m, next } => {
+            let done = m.intent(request_of(request), next);
+            let answer = done.answer;
+            return answered(done.machine, told::intent_result_told(answer));
+        }
+        TurnOption::None => return machine_kept(machine),
+    }
 }
 
 #[no_mangle]
@@ -175,12 +206,18 @@ pub extern "C" fn hiskurdo_machine_outcome(
     record: RecordNumbers,
 ) -> MachineAnswered
     ensures { λ r. ⌜ r ≡
-        answered (outcomeRule (machineOf machine) (nextOf ended «record») .machine)
-        (resolveResultTold (outcomeRule (machineOf machine) (nextOf ended «record») .answer)) ⌝ }
+        calledBy machine
+        (λ m next. answered (outcomeRule m next .machine) (resolveResultTold (outcomeRule m next .answer)))
+        (turnOf machine ended «record») ⌝ }
 {
-    let done = machine_of(machine).outcome(next_of(ended, record));
-    let answer = done.answer;
-    answered(done.machine, told::resolve_result_told(answer))
+    match given::turn_of(machine, ended, record) {
+        TurnOption::Some { machine: m, next } => {
+            let done = m.outcome(next);
+            let answer = done.answer;
+            return answered(done.machine, told::resolve_result_told(answer));
+        }
+        TurnOption::None => return machine_kept(machine),
+    }
 }
 
 #[no_mangle]
@@ -192,14 +229,25 @@ pub extern "C" fn hiskurdo_machine_timer_intent(
     record: RecordNumbers,
 ) -> MachineAnswered
     ensures { λ r. ⌜ r ≡
-        answered (timerIntentRule (machineOf machine) (timerRequestOf spec capability) (nextOf ended «record») .machine)
-        (timerIntentResultTold
-        (timerIntentRule (machineOf machine) (timerRequestOf spec capability) (nextOf ended «record») .answer)) ⌝ }
+        requestedBy machine
+        (λ request.
+        calledBy machine
+        (λ m next.
+        answered (timerIntentRule m request next .machine) (timerIntentResultTold (timerIntentRule m request next .answer)))
+        (turnOf machine ended «record»))
+        (timerRequestOf spec capability) ⌝ }
 {
-    let request = timer_request_of(spec, capability);
-    let done = machine_of(machine).timer_intent(request, next_of(ended, record));
-    let answer = done.answer;
-    answered(done.machine, told::timer_intent_result_told(answer))
+    match given::timer_request_of(spec, capability) {
+        TimerRequestOption::Some(request) => match given::turn_of(machine, ended, record) {
+            TurnOption::Some { machine: m, next } => {
+                let done = m.timer_intent(request, next);
+                let answer = done.answer;
+                return answered(done.machine, told::timer_intent_result_told(answer));
+            }
+            TurnOption::None => return machine_kept(machine),
+        },
+        TimerRequestOption::None => return machine_kept(machine),
+    }
 }
 
 #[no_mangle]
@@ -209,12 +257,18 @@ pub extern "C" fn hiskurdo_machine_timer_outcome(
     record: RecordNumbers,
 ) -> MachineAnswered
     ensures { λ r. ⌜ r ≡
-        answered (timerOutcomeRule (machineOf machine) (nextOf ended «record») .machine)
-        (timerResolveResultTold (timerOutcomeRule (machineOf machine) (nextOf ended «record») .answer)) ⌝ }
+        calledBy machine
+        (λ m next. answered (timerOutcomeRule m next .machine) (timerResolveResultTold (timerOutcomeRule m next .answer)))
+        (turnOf machine ended «record») ⌝ }
 {
-    let done = machine_of(machine).timer_outcome(next_of(ended, record));
-    let answer = done.answer;
-    answered(done.machine, told::timer_resolve_result_told(answer))
+    match given::turn_of(machine, ended, record) {
+        TurnOption::Some { machine: m, next } => {
+            let done = m.timer_outcome(next);
+            let answer = done.answer;
+            return answered(done.machine, told::timer_resolve_result_told(answer));
+        }
+        TurnOption::None => return machine_kept(machine),
+    }
 }
 
 // Numbers to values.
@@ -229,15 +283,6 @@ fn request_of(n: RequestNumbers) -> EffectRequest
     }
 }
 
-fn timer_request_of(spec: SpecNumbers, capability: u8) -> TimerRequest
-    ensures { λ r. ⌜ r ≡ timerRequestOf spec capability ⌝ }
-{
-    TimerRequest {
-        spec: crate::spec_of(spec),
-        capability: ClockCapability::of(capability as u64),
-    }
-}
-
 fn pending_from(n: PendingNumbers) -> PendingEffect
     ensures { λ r. ⌜ r ≡ pendingFrom n ⌝ }
 {
@@ -249,50 +294,6 @@ fn pending_from(n: PendingNumbers) -> PendingEffect
         kind: ActivityKind(n.kind),
         input_len: n.input_len,
         input_crc: n.input_crc,
-    }
-}
-
-fn next_of(ended: u8, record: RecordNumbers) -> Next
-    ensures { λ r. ⌜ r ≡ nextOf ended «record» ⌝ }
-{
-    if ended == 0 {
-        Next::Record(crate::record_of(record))
-    } else {
-        Next::EndOfHistory
-    }
-}
-
-fn divergence_of(n: u8) -> Divergence
-    ensures { λ r. ⌜ r ≡ divergenceOf n ⌝ }
-{
-    match n {
-        1 => Divergence::Sequence,
-        2 => Divergence::Kind,
-        3 => Divergence::Digest,
-        4 => Divergence::BoundaryKind,
-        5 => Divergence::Gate,
-        6 => Divergence::Deadline,
-        _ => Divergence::Boundary,
-    }
-}
-
-fn phase_of(phase: u8, divergence: u8) -> Phase
-    ensures { λ r. ⌜ r ≡ phaseOf phase divergence ⌝ }
-{
-    match phase {
-        0 => Phase::Settled,
-        1 => Phase::AwaitingOutcome,
-        2 => Phase::AwaitingFiring,
-        _ => Phase::Diverged(divergence_of(divergence)),
-    }
-}
-
-fn machine_of(n: MachineNumbers) -> ReplayMachine
-    ensures { λ r. ⌜ r ≡ machineOf n ⌝ }
-{
-    ReplayMachine {
-        cursor: crate::cursor_of(n.cursor),
-        phase: phase_of(n.phase, n.divergence),
     }
 }
 
@@ -338,5 +339,15 @@ fn answered(machine: ReplayMachine, answer: Told) -> MachineAnswered
     MachineAnswered {
         machine: machine_numbers(machine),
         answer,
+    }
+}
+
+// The machine's numbers as they were given, where one of those given names nothing.
+fn machine_kept(machine: MachineNumbers) -> MachineAnswered
+    ensures { λ r. ⌜ r ≡ machineKept machine ⌝ }
+{
+    MachineAnswered {
+        machine,
+        answer: crate::names_nothing(),
     }
 }

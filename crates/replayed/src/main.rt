@@ -129,7 +129,7 @@ fn ids_call(now: Current, op: u64, values: [u64; 12]) -> Current {
     let machine = now.machine;
     let old = now.ids;
     let ids = next_ids(old, op, values);
-    number(hiskurdo::hiskurdo_ids_run(ids));
+    value(hiskurdo::hiskurdo_ids_run(ids));
     io::write_all(1, b" ");
     say(hiskurdo::hiskurdo_ids_peek(ids));
     Current {
@@ -144,7 +144,8 @@ fn next_ids(old: IdsNumbers, op: u64, values: [u64; 12]) -> IdsNumbers {
         return hiskurdo::hiskurdo_ids_for_run(values[1]);
     }
     if op == 4 {
-        return hiskurdo::hiskurdo_ids_resume(values[1], low8(values[2]), low32(values[3]));
+        let resumed = hiskurdo::hiskurdo_ids_resume(values[1], low8(values[2]), low32(values[3]));
+        return resumed.ids;
     }
     let allocated = hiskurdo::hiskurdo_ids_allocate(old);
     say(allocated.answer);
@@ -159,11 +160,11 @@ fn timer_call(op: u64, values: [u64; 12]) {
     };
     match op {
         6 => {
-            number(hiskurdo::hiskurdo_spec_clock_kind(spec) as u64);
+            value(hiskurdo::hiskurdo_spec_clock_kind(spec));
             io::write_all(1, b" ");
-            number(hiskurdo::hiskurdo_spec_deadline(spec));
+            value(hiskurdo::hiskurdo_spec_deadline(spec));
         }
-        7 => number(hiskurdo::hiskurdo_spec_rearmed_at(spec, values[3], values[4])),
+        7 => value(hiskurdo::hiskurdo_spec_rearmed_at(spec, values[3], values[4])),
         8 => say(hiskurdo::hiskurdo_spec_recorded(low8(values[1]), values[2])),
         9 => admits_call(values),
         10 => say(hiskurdo::hiskurdo_timer_arm(spec, low8(values[3]), values[4])),
@@ -200,7 +201,7 @@ fn next_cursor(old: CursorNumbers, op: u64, values: [u64; 12]) -> CursorNumbers 
     let advanced = hiskurdo::hiskurdo_cursor_advance(old, record);
     say(advanced.answer);
     io::write_all(1, b" ");
-    number(hiskurdo::hiskurdo_record_kind(record) as u64);
+    value(hiskurdo::hiskurdo_record_kind(record));
     io::write_all(1, b" ");
     advanced.cursor
 }
@@ -291,7 +292,7 @@ fn divergence_call(values: [u64; 12]) {
 
 // What every reader of the machine says.
 fn machine_readers(machine: MachineNumbers) {
-    number(machines::hiskurdo_machine_run(machine));
+    value(machines::hiskurdo_machine_run(machine));
     let position = machines::hiskurdo_machine_position(machine);
     io::write_all(1, b" ");
     number(position.number);
@@ -302,19 +303,19 @@ fn machine_readers(machine: MachineNumbers) {
     io::write_all(1, b" ");
     say(machines::hiskurdo_machine_pending_timer(machine));
     io::write_all(1, b" ");
-    number(machines::hiskurdo_machine_diverged(machine) as u64);
+    value(machines::hiskurdo_machine_diverged(machine));
 }
 
 // What every reader of the cursor says.
 fn readers(cursor: CursorNumbers) {
-    number(hiskurdo::hiskurdo_cursor_run(cursor));
+    value(hiskurdo::hiskurdo_cursor_run(cursor));
     let position = hiskurdo::hiskurdo_cursor_position(cursor);
     io::write_all(1, b" ");
     number(position.number);
     io::write_all(1, b" ");
     number(position.a);
     io::write_all(1, b" ");
-    number(hiskurdo::hiskurdo_cursor_is_terminal(cursor) as u64);
+    value(hiskurdo::hiskurdo_cursor_is_terminal(cursor));
     io::write_all(1, b" ");
     say(hiskurdo::hiskurdo_cursor_pending(cursor));
     io::write_all(1, b" ");
@@ -323,6 +324,15 @@ fn readers(cursor: CursorNumbers) {
     say(hiskurdo::hiskurdo_cursor_next_seq(cursor));
     io::write_all(1, b" ");
     say(hiskurdo::hiskurdo_cursor_next_effect_id(cursor));
+}
+
+// A value that is one number; a refusal is said whole.
+fn value(told: Told) {
+    if told.number == 0 {
+        number(told.a);
+    } else {
+        say(told);
+    }
 }
 
 fn say(told: Told) {

@@ -1,12 +1,26 @@
--- `hiskurdo_timer_evaluate` meets its contract: it is the call it makes, between the conversions.
+-- `hiskurdo::hiskurdo_timer_evaluate` meets its contract: by the spec that the numbers name.
 -- Assumes nothing.
 use borrow.Author.Needs.{needs}
+use mathlib.Core.Path.{sym, _∙_}
+use Rattle.errors.proofs.Arms.{by-arm}
+use Rattle.hiskurdo.specs.Numbers.{ofSpec}
 use Rattle.hiskurdo.proofs.hiskurdo_timer_evaluate.Statement.{statement}
 use Rattle.hiskurdo.proofs.hiskurdo_timer_evaluate.Tie as tie
+
+returns : tie.Need-returns
+returns c =
+    let named = c .before .before .before .before .before .spec-of in
+    let it = c .before .before .before .s in
+    by-arm (ofSpec _) (sym (named .ensures) ∙ it .given .1) (rw (c .told .ensures, c .before .evaluate .ensures))
+
+returns-2 : tie.Need-returns-2
+returns-2 c =
+    let named = c .before .before .before .spec-of in
+    by-arm (ofSpec _) (sym (named .ensures) ∙ c .before .enum-told .given .1) (c .names-nothing .ensures)
 
 pub hiskurdo-timer-evaluate-spec : {M : Type 1} → statement M
 hiskurdo-timer-evaluate-spec =
     let shown = tie.spec
-    (λ c κs. search needs) (λ c κs. search needs) (λ c κs. search needs)
-    (λ c. rw (c .told .ensures, c .before .evaluate .ensures, c .before .before .spec-of .ensures)) in
+    (λ c κs. search needs) (λ c. search needs) (λ c κs. search needs) (λ c κs. search needs) (λ c. search needs)
+    (λ c κs. search needs) returns returns-2 in
     tie.close shown

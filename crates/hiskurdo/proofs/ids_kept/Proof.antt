@@ -1,0 +1,15 @@
+-- `hiskurdo::ids_kept` meets its contract: it is what was given, with 60.
+-- Assumes nothing.
+use borrow.Author.Needs.{needs}
+use Rattle.hiskurdo.proofs.ids_kept.Statement.{statement}
+use Rattle.hiskurdo.proofs.ids_kept.Tie as tie
+
+returns : tie.Need-returns
+returns c =
+    rw (c .names-nothing .ensures)
+
+pub ids-kept-spec : {M : Type 1} → statement M
+ids-kept-spec =
+    let shown = tie.spec
+    (λ c κs. search needs) returns in
+    tie.close shown
