@@ -2,7 +2,7 @@
 import pathlib, re
 
 ROOT = pathlib.Path(__file__).resolve().parent.parent
-LEFT_OUT = {"described", "loading"}  # what the programs read: stored lists, files; no contract can say which
+LEFT_OUT = {"described"}  # what the test programs read: stored lists
 CLAIM = re.compile(r"# ([A-Za-z_][\w-]*(?:::\w+)*)(?: ([a-z0-9-]+))?: (.+)")
 
 

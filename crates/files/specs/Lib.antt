@@ -3,3 +3,4 @@ pub mod Entries
 pub mod Reading
 pub mod Contents
 pub mod Encoding
+pub mod Kinds
