@@ -2,12 +2,11 @@
 import pathlib, re
 
 ROOT = pathlib.Path(__file__).resolve().parent.parent
-LEFT_OUT = {"loading"}  # what the programs read of files: no contract can say which
 CLAIM = re.compile(r"# ([A-Za-z_][\w-]*(?:::\w+)*)(?: ([a-z0-9-]+))?: (.+)")
 
 
 def libraries():
-    return sorted(p.parents[1] for p in (ROOT / "crates").glob("*/src/lib.rt") if p.parts[-3] not in LEFT_OUT)
+    return sorted(p.parents[1] for p in (ROOT / "crates").glob("*/src/lib.rt"))
 
 
 def functions(crate):

@@ -15,6 +15,9 @@
 #include <stddef.h>
 #include <stdint.h>
 
+/* What the programs' --version says. */
+#define HISKURDO_VERSION "0.1.0"
+
 #ifdef __cplusplus
 extern "C" {
 #endif
@@ -65,9 +68,10 @@ HiskurdoEntryNumbers hiskurdo_next_step(const uint8_t *file, size_t file_len, ui
 /* The verdict on a journal and a plan.
  * refused 0: a is the ending (0 unstarted, 1 due, 2 done, 3 open, 4 finished), b the stop, c the count of records, d the calls.
  * The records are a history of the plan with that ending and stop, and with no other.
- * refused 1: a is the number, b the place, c the divergence or 0, d the calls. a is 1 to 19 exactly where a file is not
- * readable, the journal read first. Else the records are no history of the plan: the first b begin one and the first b + 1 do
- * not, or b is the count of records and the step that is next is a timer for which the plan's capability has no clock. */
+ * refused 1: a is the number, b the place (the record, or the record count at the end; for 7, 8, 17 and 18 the entry; else 0),
+ * c the divergence or 0, d the calls. a is 1 to 19 exactly where a file is not readable, the journal read first. Else the
+ * records are no history of the plan: the first b begin one and the first b + 1 do not, or b is the count of records and the
+ * step that is next is a timer for which the plan's capability has no clock. */
 typedef struct {
     uint64_t refused;
     uint64_t a;

@@ -4,3 +4,4 @@ pub mod Reading
 pub mod Contents
 pub mod Encoding
 pub mod Told
+pub mod Kinds

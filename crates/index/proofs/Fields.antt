@@ -1,7 +1,6 @@
 -- Laws of a row that is written field by field: the bytes copied so far, the byte that ends a field, fields one after another.
 use Prim.Native.Nat.{ℕ, zero, suc, _+_, _≤_, _<_}
 use mathlib.Core.Path.{_≡_, refl, ap, _∙_, subst}
-use mathlib.Core.Bool.{Bool}
 use mathlib.Core.List.{List, [], _∷_, _++_, append-assoc}
 use native.Mathlib.Numerals.{add-one}
 use native.Mathlib.Omega.{arith}
@@ -11,7 +10,8 @@ use Rattle.histories.specs.declared.Answer.{Answer}
 use Rattle.lines.specs.declared.Line.{Line}
 use Rattle.lines.specs.Line.{Holds}
 use Rattle.lines.proofs.Laws.{held-len, held-front}
-use Rattle.index.specs.Row.{clean, cleaned, ended, opensBefore, placeOf, answerFields, fields, Fielded}
+use Rattle.loading.specs.Names.{clean}
+use Rattle.index.specs.Row.{cleaned, ended, tellingKind, answerFields, fields, Fielded}
 
 -- the first n bytes of a text stand at a place, and all else is as it was
 pub record Copied (before : List ℕ) (at : ℕ) (text after : List ℕ) (n : ℕ) : Type 0 where
@@ -72,7 +72,7 @@ module _ (a b c d x y z : List ℕ) (i j k m last₁ last₂ last₃ : ℕ) wher
   three f g h = rw (h .front, g .front, f .front, append-assoc, append-assoc, append-assoc)
 
 -- the name's field, and after it the answer's
-module _ (name journal room named last : List ℕ) (at end place : ℕ) (answer : Answer) (opened : Bool) where
-  pub row-of : Fielded room 0 (cleaned name) 9 named at → take end last ≡ take at named ++ answerFields answer opened →
-      place ≡ placeOf answer → opened ≡ opensBefore journal place → take end last ≡ fields name journal answer
-  row-of f g p o = rw (g, f .front, o, p)
+module _ (name journal plan room named last : List ℕ) (at end kind : ℕ) (answer : Answer) where
+  pub row-of : Fielded room 0 (cleaned name) 9 named at → take end last ≡ take at named ++ answerFields answer kind →
+      kind ≡ tellingKind journal plan answer → take end last ≡ fields name journal plan answer
+  row-of f g k = rw (g, f .front, k)

@@ -20,11 +20,10 @@ use Rattle.histories.specs.declared.Answer.{Answer}
 use Rattle.histories.specs.declared.Answer.the-variants as Answer
 use Rattle.endings.specs.declared.Ending.{Ending}
 use Rattle.endings.specs.declared.Ending.the-variants as Ending
-use Rattle.endings.specs.Endings.{endingNumber}
 use Rattle.histories.specs.Checklist.{numbers, divergences, divergencesOf}
 use Rattle.histories.specs.Promise.{Promise, RefusedCount, Counted}
 use Rattle.histories.proofs.Numbers.{Each, each}
-use Rattle.lines.specs.Words.{Row, table, isOf, detailOf}
+use Rattle.lines.specs.Words.{Row, table, isOf, endingDetail, detailOf}
 use Rattle.resume.specs.Verdict.{verdictBy, verdictRule, KeptBy, Kept}
 use Rattle.resume.proofs.Keeps.{keeps}
 
@@ -32,26 +31,34 @@ abbrev hasRow : List Row → ℕ → ℕ → Bool
 hasRow [] number detail = false
 hasRow (r ∷ rows) number detail = isOf number detail r || hasRow rows number detail
 
-abbrev pub Worded : Answer → Bool → Type 0
-Worded (Answer.Ok ending stop records calls) opened = T (hasRow table 0 (endingNumber ending))
-Worded (Answer.No number place divergence calls) opened = T (hasRow table number (detailOf number place divergence opened))
+abbrev pub Worded : Answer → ℕ → Type 0
+Worded (Answer.Ok ending stop records calls) kind = T (hasRow table 0 (endingDetail ending kind))
+Worded (Answer.No number place divergence calls) kind = T (hasRow table number (detailOf number place divergence kind))
 
-ending-worded : (ending : Ending) → T (hasRow table 0 (endingNumber ending))
-ending-worded Ending.Unstarted = tt
-ending-worded Ending.Due = tt
-ending-worded Ending.Done = tt
-ending-worded Ending.Open = tt
-ending-worded Ending.Finished = tt
+ending-worded : (ending : Ending) (kind : ℕ) → T (hasRow table 0 (endingDetail ending kind))
+ending-worded Ending.Unstarted kind = tt
+ending-worded Ending.Due kind = tt
+ending-worded Ending.Done kind = tt
+ending-worded Ending.Open kind = either (eqb kind 5)
+  where
+    either : (timer : Bool) → T (hasRow table 0 (cond timer 5 3))
+    either true = tt
+    either false = tt
+ending-worded Ending.Finished kind = either (eqb kind 8)
+  where
+    either : (failed : Bool) → T (hasRow table 0 (cond failed 6 4))
+    either true = tt
+    either false = tt
 
 -- a refusal of reading, which has no divergence
-abbrev Read : Bool → ℕ → ℕ → Type 0
-Read opened place n = T (hasRow table n (detailOf n place 0 opened))
+abbrev Read : ℕ → ℕ → ℕ → Type 0
+Read kind place n = T (hasRow table n (detailOf n place 0 kind))
 
-journal-worded : (opened : Bool) (place : ℕ) → Each (Read opened place) (checkNumbers Format.Journal)
-journal-worded opened place = (tt, (tt, (tt, (tt, (tt, (tt, (tt, (tt, tt))))))))
+journal-worded : (kind place : ℕ) → Each (Read kind place) (checkNumbers Format.Journal)
+journal-worded kind place = (tt, (tt, (tt, (tt, (tt, (tt, (tt, (tt, tt))))))))
 
-plan-worded : (opened : Bool) (place : ℕ) → Each (Read opened place) (checkNumbers Format.Plan)
-plan-worded opened place = (tt, (tt, (tt, (tt, (tt, (tt, (tt, (tt, (tt, tt)))))))))
+plan-worded : (kind place : ℕ) → Each (Read kind place) (checkNumbers Format.Plan)
+plan-worded kind place = (tt, (tt, (tt, (tt, (tt, (tt, (tt, (tt, (tt, tt)))))))))
 
 -- 24: the first record, one after an opener, any other
 malformed : (first opened : Bool) → T (hasRow table 24 (cond first 0 (cond opened 2 1)))
@@ -59,36 +66,41 @@ malformed true opened = tt
 malformed false true = tt
 malformed false false = tt
 
--- a refusal of the procedure, by its number and divergence
-abbrev Replayed : Bool → ℕ → ℕ → Type 0
-Replayed opened place n =
-    (d : ℕ) → T (among (divergencesOf n) d) → T (hasRow table n (detailOf n place d opened))
+-- 31: a marker, or an opener
+beyond : (marker : Bool) → T (hasRow table 31 (cond marker 1 0))
+beyond true = tt
+beyond false = tt
 
-replayed : (opened : Bool) (place : ℕ) → Each (Replayed opened place) numbers
-replayed opened place = (
+-- a refusal of the procedure, by its number and divergence
+abbrev Replayed : ℕ → ℕ → ℕ → Type 0
+Replayed kind place n =
+    (d : ℕ) → T (among (divergencesOf n) d) → T (hasRow table n (detailOf n place d kind))
+
+replayed : (kind place : ℕ) → Each (Replayed kind place) numbers
+replayed kind place = (
   each (λ (d : ℕ). T (hasRow table 22 d)) divergences (tt, (tt, (tt, (tt, (tt, tt))))),
   (
     each (λ (d : ℕ). T (hasRow table 23 d)) (0 ∷ []) (tt, tt),
     (
-      λ d t. malformed (eqb place 0) opened,
-      (each (λ (d : ℕ). T (hasRow table 25 d)) (0 ∷ []) (tt, tt), (each (λ (d : ℕ). T (hasRow table 31 d)) (0 ∷ []) (tt, tt), tt)),
+      λ d t. malformed (eqb place 0) (eqb kind 2 || eqb kind 5),
+      (each (λ (d : ℕ). T (hasRow table 25 d)) (0 ∷ []) (tt, tt), (λ d t. beyond (eqb kind 9), tt)),
     ),
   ),
 )
 
-kept-worded : (capability : ClockCapability) (plan : List PlanStep) (records : List RecordRef) (answer : Answer) (opened : Bool) →
-    Counted capability plan records answer → Worded answer opened
-kept-worded capability plan list (Answer.Ok ending stop records calls) opened c = ending-worded ending
-kept-worded capability plan list (Answer.No number place divergence calls) opened c =
-    each (Replayed opened place) numbers (replayed opened place) number (c .listed) divergence (c .divergences)
+kept-worded : (capability : ClockCapability) (plan : List PlanStep) (records : List RecordRef) (answer : Answer) (kind : ℕ) →
+    Counted capability plan records answer → Worded answer kind
+kept-worded capability plan list (Answer.Ok ending stop records calls) kind c = ending-worded ending kind
+kept-worded capability plan list (Answer.No number place divergence calls) kind c =
+    each (Replayed kind place) numbers (replayed kind place) number (c .listed) divergence (c .divergences)
 
-module _ (j p : List ℕ) (opened : Bool) where
-  by-readings : (a : JournalRead) (b : PlanRead) → journalRule j ≡ a → planRule p ≡ b → KeptBy a b j p (verdictBy a b j p) → Worded (verdictBy a b j p) opened
-  by-readings (JournalRead.Refused n place) b ea eb k = each (Read opened place) (checkNumbers Format.Journal) (journal-worded opened place) n (journal-number j ea)
+module _ (j p : List ℕ) (kind : ℕ) where
+  by-readings : (a : JournalRead) (b : PlanRead) → journalRule j ≡ a → planRule p ≡ b → KeptBy a b j p (verdictBy a b j p) → Worded (verdictBy a b j p) kind
+  by-readings (JournalRead.Refused n place) b ea eb k = each (Read kind place) (checkNumbers Format.Journal) (journal-worded kind place) n (journal-number j ea)
   by-readings (JournalRead.Readable run count) (PlanRead.Refused n place) ea eb k =
-      each (Read opened place) (checkNumbers Format.Plan) (plan-worded opened place) n (plan-number p eb)
-  by-readings (JournalRead.Readable run count) (PlanRead.Readable capability steps) ea eb k = kept-worded capability (stepsOf p) (recordsOf j) (verdictBy (JournalRead.Readable run count) (PlanRead.Readable capability steps) j p) opened (k .counts)
+      each (Read kind place) (checkNumbers Format.Plan) (plan-worded kind place) n (plan-number p eb)
+  by-readings (JournalRead.Readable run count) (PlanRead.Readable capability steps) ea eb k = kept-worded capability (stepsOf p) (recordsOf j) (verdictBy (JournalRead.Readable run count) (PlanRead.Readable capability steps) j p) kind (k .counts)
 
-  pub worded : Worded (verdictRule j p) opened
+  pub worded : Worded (verdictRule j p) kind
   unfolding verdictRule
   worded = by-readings (journalRule j) (planRule p) refl refl (keeps j p (verdictRule j p) refl .promise)

@@ -8,12 +8,13 @@ ghost use Prim.Native.Nat.{_+_, _≤_};
 ghost use lib.ListN.{length, take};
 ghost use Rattle.io.specs.Counts.{Counts};
 ghost use Rattle.lines.specs.Words.{resumeOf, wordsOf};
-ghost use Rattle.index.specs.Row.{clean, cleaned, opensBefore, placeOf, printed, answerFields, rowOf, Fielded};
+ghost use Rattle.index.specs.Row.{cleaned, kindBefore, endingKind, refusedKind, tellingKind, printed, answerFields, rowOf, Fielded};
+use endings::Ending;
 use histories::Answer;
 use lines::Line;
 
 // A field at a place of the row, and the byte that ends it.
-pub(crate) fn field(room: &mut [u8], at: usize, text: &[u8], last: u8) -> usize
+fn field(room: &mut [u8], at: usize, text: &[u8], last: u8) -> usize
     requires { ⌜ at + length (now text) + 1 ≤ length (now room) ⌝ }
     ensures { λ r. ⌜ Fielded (now (room .entry)) at (now (text .entry)) last (now (room .exit)) r ⌝ }
 {
@@ -26,17 +27,6 @@ pub(crate) fn field(room: &mut [u8], at: usize, text: &[u8], last: u8) -> usize
     at + i + 1
 }
 
-// A control byte is shown as `?`.
-fn clean(byte: u8) -> u8
-    ensures { λ r. ⌜ r ≡ clean byte ⌝ }
-{
-    if (byte < 32) | (byte == 127) {
-        b'?'
-    } else {
-        byte
-    }
-}
-
 // The folder's name, as the first field.
 fn name_field(room: &mut [u8], name: &[u8]) -> usize
     requires { ⌜ length (now name) + 1 ≤ length (now room) ⌝ }
@@ -45,7 +35,7 @@ fn name_field(room: &mut [u8], name: &[u8]) -> usize
 {
     let mut i = 0;
     while i < name.len() {
-        room[i] = clean(name[i]);
+        room[i] = loading::names::clean(name[i]);
         i += 1;
     }
     room[i] = b'\t';
@@ -82,47 +72,65 @@ fn verdict_field(room: &mut [u8], at: usize, answer: Answer) -> usize
     line_field(room, at, line, line.len - 1, b'\t')
 }
 
-fn words_field(room: &mut [u8], at: usize, answer: Answer, opened: bool) -> usize
+fn words_field(room: &mut [u8], at: usize, answer: Answer, kind: u8) -> usize
     requires { ⌜ at + 129 ≤ length (now room) ⌝ }
-    ensures { λ r. ⌜ Fielded (now (room .entry)) at (wordsOf answer opened) 10 (now (room .exit)) r ⌝ }
+    ensures { λ r. ⌜ Fielded (now (room .entry)) at (wordsOf answer kind) 10 (now (room .exit)) r ⌝ }
     ensures { λ r. ⌜ r ≤ at + 129 ⌝ }
 {
-    let line = lines::words::words_of(answer, opened);
+    let line = lines::words::words_of(answer, kind);
     line_field(room, at, line, line.len, b'\n')
 }
 
 // The fields after the name.
-fn answer_fields(room: &mut [u8], at: usize, answer: Answer, opened: bool) -> usize
+fn answer_fields(room: &mut [u8], at: usize, answer: Answer, kind: u8) -> usize
     requires { ⌜ at + 387 ≤ length (now room) ⌝ }
-    ensures { λ r. ⌜ take r (now (room .exit)) ≡ take at (now (room .entry)) ++ answerFields answer opened ⌝ }
+    ensures { λ r. ⌜ take r (now (room .exit)) ≡ take at (now (room .entry)) ++ answerFields answer kind ⌝ }
     ensures { λ r. ⌜ Counts r (now (room .exit)) ⌝ }
 {
     let second = resume_field(room, at, answer);
     let third = verdict_field(room, second, answer);
-    words_field(room, third, answer, opened)
+    words_field(room, third, answer, kind)
 }
 
-// Does the record before this place open a step.
-fn opens_before(journal: &[u8], place: u64) -> bool
-    ensures { λ r. ⌜ r ≡ opensBefore (now (journal .entry)) place ⌝ }
+// The kind of the record before a place; before the first there is none.
+fn kind_before(journal: &[u8], place: u64) -> u8
+    ensures { λ r. ⌜ r ≡ kindBefore (now (journal .entry)) place ⌝ }
 {
     if place == 0 {
-        return false;
+        return 0;
     }
-    if journal.len() < 17 {
-        return false;
-    }
-    let before = place - 1;
-    let last = (journal.len() - 17) / 24;
-    if before > last as u64 {
-        return false;
-    }
-    let kind = journal[16 + 24 * before as usize];
-    (kind == 2) | (kind == 5)
+    files::kinds::kind_of(journal, place - 1)
 }
 
-fn place_of(answer: Answer) -> u64
-    ensures { λ r. ⌜ r ≡ placeOf answer ⌝ }
+// The kind of the open step, or of the record that ended the run.
+fn ending_kind(journal: &[u8], plan: &[u8], ending: Ending, stop: u64, records: u64) -> u8
+    ensures { λ r. ⌜ r ≡ endingKind (now (journal .entry)) (now (plan .entry)) ending stop records ⌝ }
+{
+    match ending {
+        Ending::Unstarted => 0,
+        Ending::Due => 0,
+        Ending::Done => 0,
+        Ending::Open => files::kinds::kind_of(plan, stop),
+        Ending::Finished => kind_before(journal, records),
+    }
+}
+
+// The kind of the record before one that cannot follow it, or of one beyond the plan.
+fn refused_kind(journal: &[u8], number: u64, place: u64) -> u8
+    ensures { λ r. ⌜ r ≡ refusedKind (now (journal .entry)) number place ⌝ }
+{
+    if number == 24 {
+        return kind_before(journal, place);
+    }
+    if number == 31 {
+        return files::kinds::kind_of(journal, place);
+    }
+    0
+}
+
+// The kind of the entry that tells apart the words of one answer.
+fn telling_kind(journal: &[u8], plan: &[u8], answer: Answer) -> u8
+    ensures { λ r. ⌜ r ≡ tellingKind (now (journal .entry)) (now (plan .entry)) answer ⌝ }
 {
     match answer {
         Answer::Ok {
@@ -130,13 +138,13 @@ fn place_of(answer: Answer) -> u64
             stop,
             records,
             calls,
-        } => 0,
+        } => ending_kind(journal, plan, ending, stop, records),
         Answer::No {
             number,
             place,
             divergence,
             calls,
-        } => place,
+        } => refused_kind(journal, number, place),
     }
 }
 
@@ -148,7 +156,7 @@ pub(crate) fn row(name: &[u8], journal: &[u8], plan: &[u8], room: &mut [u8]) -> 
     ensures { λ r. ⌜ Counts r (now (room .exit)) ⌝ }
 {
     let answer = resume::verdict(journal, plan);
-    let opened = opens_before(journal, place_of(answer));
+    let kind = telling_kind(journal, plan, answer);
     let at = name_field(room, name);
-    answer_fields(room, at, answer, opened)
+    answer_fields(room, at, answer, kind)
 }

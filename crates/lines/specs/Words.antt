@@ -2,12 +2,14 @@
 use Prim.Native.Nat.{ℕ}
 use Prim.Native.Char.{code}
 use Prim.Native.String.{String, [] as «end», _∷_ as _then_}
-use mathlib.Core.Bool.{Bool, cond, _&&_}
+use mathlib.Core.Bool.{Bool, cond, _&&_, _||_}
 use mathlib.Core.List.{List, [], _∷_, _++_}
 use lib.Dec.{eqb}
 use Rattle.histories.specs.declared.Answer.{Answer}
 use Rattle.histories.specs.declared.Answer.the-variants as Answer
-use Rattle.endings.specs.Endings.{endingNumber, stillToRun}
+use Rattle.endings.specs.declared.Ending.{Ending}
+use Rattle.endings.specs.declared.Ending.the-variants as Ending
+use Rattle.endings.specs.Endings.{stillToRun}
 use Rattle.lines.specs.Line.{decimal}
 
 -- a text in bytes
@@ -15,7 +17,7 @@ abbrev pub ascii : String → List ℕ
 ascii «end» = []
 ascii (c then text) = code c ∷ ascii text
 
--- a refusal's number (0 of an ending), what tells apart those of one number, and the words; `#` stands for the step or the place
+-- a refusal's number (0 of an ending), the detail that tells apart those of one number, and the words; `#` stands for the step or the place
 pub record Row : Type 0 where
   pub number : ℕ
   pub detail : ℕ
@@ -28,9 +30,11 @@ abbrev pub table : List Row
 table =
     row 0 0 "Nothing to resume: the run was never started" ∷
     row 0 1 "Start step #" ∷
-    row 0 2 "Nothing left to do: every step is done" ∷
-    row 0 3 "Deliver step # again (a timer: arm it again): it was begun and has no outcome" ∷
-    row 0 4 "The run ended; steps with an outcome: #" ∷
+    row 0 2 "Nothing left to do: every step has an outcome, completed or failed" ∷
+    row 0 3 "Deliver step # again: it was begun and has no outcome" ∷
+    row 0 4 "The run completed; steps with an outcome: #" ∷
+    row 0 5 "Arm the timer of step # again: it was armed and has not fired" ∷
+    row 0 6 "The run failed; steps with an outcome: #" ∷
     row 1 0 "Journal: missing, unreadable or under 16 bytes" ∷
     row 2 0 "Journal: over 32,768 bytes" ∷
     row 3 0 "Journal: not a journal file" ∷
@@ -58,7 +62,8 @@ table =
     row 24 1 "Steps carry consecutive numbers: record # cannot follow the one before it (lost or doubled)" ∷
     row 24 2 "An open step is never shown as done: record # is not the outcome of the step opened before it" ∷
     row 25 0 "Recorded timers fit this board's clocks: the next step's timer, due at record #, does not" ∷
-    row 31 0 "Each step matches the plan: record # opens a step beyond the plan's last" ∷ []
+    row 31 0 "Each step matches the plan: record # opens a step beyond the plan's last" ∷
+    row 31 1 "Each step matches the plan: record # is a version marker after the plan's last step" ∷ []
 
 abbrev pub otherWords : String
 otherWords = "No file can give this answer: keep both files and report them"
@@ -79,18 +84,33 @@ abbrev pub filled : ℕ → List ℕ → List ℕ
 filled n [] = []
 filled n (byte ∷ bytes) = shown n byte ++ filled n bytes
 
--- what tells apart the refusals of one number: the divergence, and for 24 whether the record is the first one, or comes after
--- one that opens a step
-abbrev pub detailOf : ℕ → ℕ → ℕ → Bool → ℕ
-detailOf number place divergence opened = cond (eqb number 24) (cond (eqb place 0) 0 (cond opened 2 1)) divergence
+-- What tells apart the words of one answer is the kind of one entry (which one, index/Row says): 2 an effect's opener, 5 a timer's,
+-- 8 a failed run, 9 a marker. At *open* it is the step's, at *finished* the last record's.
+abbrev pub endingDetail : Ending → ℕ → ℕ
+endingDetail Ending.Unstarted kind = 0
+endingDetail Ending.Due kind = 1
+endingDetail Ending.Done kind = 2
+endingDetail Ending.Open kind = cond (eqb kind 5) 5 3
+endingDetail Ending.Finished kind = cond (eqb kind 8) 6 4
+
+-- of refusals the divergence; for 24 whether the record is the first one, or comes after one that opens a step; for 31 whether it
+-- is a marker
+abbrev pub detailOf : ℕ → ℕ → ℕ → ℕ → ℕ
+detailOf number place divergence kind =
+    cond (eqb number 24) (cond (eqb place 0) 0 (cond (eqb kind 2 || eqb kind 5) 2 1))
+    (cond (eqb number 31) (cond (eqb kind 9) 1 0) divergence)
 
 -- what to do at which step, or which line of the checklist failed and at which record
-unfoldable pub wordsOf : Answer → Bool → List ℕ
-wordsOf (Answer.Ok ending stop records calls) opened = filled stop (ascii (wordsIn table 0 (endingNumber ending)))
-wordsOf (Answer.No number place divergence calls) opened =
-    filled place (ascii (wordsIn table number (detailOf number place divergence opened)))
+unfoldable pub wordsOf : Answer → ℕ → List ℕ
+wordsOf (Answer.Ok ending stop records calls) kind = filled stop (ascii (wordsIn table 0 (endingDetail ending kind)))
+wordsOf (Answer.No number place divergence calls) kind =
+    filled place (ascii (wordsIn table number (detailOf number place divergence kind)))
 
 -- may the run be resumed, and at which step: where one is still to run
 unfoldable pub resumeOf : Answer → List ℕ
 resumeOf (Answer.Ok ending stop records calls) = filled stop (ascii (cond (stillToRun ending) "yes, step #" "no"))
 resumeOf (Answer.No number place divergence calls) = ascii "no"
+
+-- the version, as both programs print it
+abbrev pub versionLine : List ℕ
+versionLine = ascii "hiskurdo 0.1.0\n"

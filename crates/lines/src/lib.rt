@@ -10,6 +10,7 @@ ghost use Prim.Native.Nat.{_+_, _≤_, _<_};
 ghost use lib.ListN.{length};
 ghost use Rattle.endings.specs.Endings.{endingWord};
 ghost use Rattle.lines.specs.Line.{decimal, spaced, lineOf, holding, Holds};
+ghost use Rattle.lines.specs.Words.{versionLine};
 ghost use Rattle.lines.specs.Writing.{pushed, written};
 use endings::Ending;
 use histories::Answer;
@@ -130,4 +131,11 @@ pub fn line_of(answer: Answer) -> Line
             calls,
         } => refused(number, place, divergence, calls),
     }
+}
+
+// The version, as both programs print it.
+pub fn version() -> Line
+    ensures { λ r. ⌜ Holds r versionLine ⌝ }
+{
+    write(empty(), b"hiskurdo 0.1.0\n")
 }

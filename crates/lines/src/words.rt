@@ -6,7 +6,7 @@ ghost use lib.ListN.{length, drop};
 ghost use Rattle.endings.specs.Endings.{stillToRun};
 ghost use Rattle.lines.specs.Line.{Holds};
 ghost use Rattle.lines.specs.Writing.{written};
-ghost use Rattle.lines.specs.Words.{table, wordsIn, ascii, filled, shown, detailOf, wordsOf, resumeOf};
+ghost use Rattle.lines.specs.Words.{table, wordsIn, ascii, filled, shown, endingDetail, detailOf, wordsOf, resumeOf};
 ghost use Rattle.lines.specs.Rows.{coded, afterLine, ofLine, keyed, wordsAt};
 use crate::Line;
 use endings::Ending;
@@ -115,9 +115,11 @@ fn said(number: u64, detail: u64, n: u64) -> Line
         b"\
         00 0 Nothing to resume: the run was never started\n\
         00 1 Start step #\n\
-        00 2 Nothing left to do: every step is done\n\
-        00 3 Deliver step # again (a timer: arm it again): it was begun and has no outcome\n\
-        00 4 The run ended; steps with an outcome: #\n\
+        00 2 Nothing left to do: every step has an outcome, completed or failed\n\
+        00 3 Deliver step # again: it was begun and has no outcome\n\
+        00 4 The run completed; steps with an outcome: #\n\
+        00 5 Arm the timer of step # again: it was armed and has not fired\n\
+        00 6 The run failed; steps with an outcome: #\n\
         01 0 Journal: missing, unreadable or under 16 bytes\n\
         02 0 Journal: over 32,768 bytes\n\
         03 0 Journal: not a journal file\n\
@@ -146,6 +148,7 @@ fn said(number: u64, detail: u64, n: u64) -> Line
         24 2 An open step is never shown as done: record # is not the outcome of the step opened before it\n\
         25 0 Recorded timers fit this board's clocks: the next step's timer, due at record #, does not\n\
         31 0 Each step matches the plan: record # opens a step beyond the plan's last\n\
+        31 1 Each step matches the plan: record # is a version marker after the plan's last step\n\
         ",
         number,
         detail,
@@ -153,21 +156,40 @@ fn said(number: u64, detail: u64, n: u64) -> Line
     )
 }
 
-fn detail_of(number: u64, place: u64, divergence: u64, opened: bool) -> u64
-    ensures { λ r. ⌜ r ≡ detailOf number place divergence opened ⌝ }
+// What tells apart the words of one ending: the kind of the open step, or of the record that ended the run.
+fn ending_detail(ending: Ending, kind: u8) -> u64
+    ensures { λ r. ⌜ r ≡ endingDetail ending kind ⌝ }
 {
-    if number != 24 {
-        return divergence;
+    match ending {
+        Ending::Unstarted => 0,
+        Ending::Due => 1,
+        Ending::Done => 2,
+        Ending::Open => { if kind == 5 { 5 } else { 3 } }
+        Ending::Finished => { if kind == 8 { 6 } else { 4 } }
     }
-    if place == 0 {
-        return 0;
-    }
-    if opened { 2 } else { 1 }
 }
 
-// What an answer means; opened says whether the record before the place opens a step.
-pub fn words_of(answer: Answer, opened: bool) -> Line
-    ensures { λ r. ⌜ Holds r (wordsOf answer opened) ⌝ }
+fn detail_of(number: u64, place: u64, divergence: u64, kind: u8) -> u64
+    ensures { λ r. ⌜ r ≡ detailOf number place divergence kind ⌝ }
+{
+    if number == 24 {
+        if place == 0 {
+            return 0;
+        }
+        if (kind == 2) | (kind == 5) {
+            return 2;
+        }
+        return 1;
+    }
+    if number != 31 {
+        return divergence;
+    }
+    if kind == 9 { 1 } else { 0 }
+}
+
+// What an answer means; kind is that of the entry which tells apart the words of one answer.
+pub fn words_of(answer: Answer, kind: u8) -> Line
+    ensures { λ r. ⌜ Holds r (wordsOf answer kind) ⌝ }
 {
     match answer {
         Answer::Ok {
@@ -175,13 +197,13 @@ pub fn words_of(answer: Answer, opened: bool) -> Line
             stop,
             records,
             calls,
-        } => said(0, ending.number(), stop),
+        } => said(0, ending_detail(ending, kind), stop),
         Answer::No {
             number,
             place,
             divergence,
             calls,
-        } => said(number, detail_of(number, place, divergence, opened), place),
+        } => said(number, detail_of(number, place, divergence, kind), place),
     }
 }
 

@@ -1,16 +1,61 @@
-// Prints the verdict on the files run.jnl and run.pln of the folder that it is run in, as one line (01, "`verdict` reads").
+// Prints the verdict on the files run.jnl and run.pln of a folder, as one line (01, "`verdict` reads"): of the folder that it is
+// given, or of the one that it is run in.
 //
 // Reading and printing are tested; no contract can speak of them. The line between them is proved.
+ghost use Rattle.io.specs.Counts.{Counts};
 ghost use Rattle.lines.specs.Line.{lineOf, Holds};
 ghost use Rattle.resume.specs.Verdict.{verdictRule};
 use lines::Line;
+use loading::names::Asked;
 
 fn main() {
+    let count = os::arg_count();
+    if count < 2 {
+        judge(b".");
+        return;
+    }
+    if count > 2 {
+        usage(2);
+        return;
+    }
+    let mut name = io::buffer();
+    let n = loading::argument(1, &mut name);
+    match loading::names::asked_for(&name[..n]) {
+        Asked::Folder => judge(&name[..n]),
+        Asked::Help => usage(1),
+        Asked::Version => print(lines::version()),
+        Asked::Unknown => usage(2),
+    }
+}
+
+fn usage(fd: i32) {
+    io::write_all(
+        fd,
+        b"\
+        verdict [FOLDER]  (as: verdict runs/a; without FOLDER: the current folder)\n\
+        One line on the run in the folder's files run.jnl and run.pln:\n\
+        ok ENDING STOP RECORDS CALLS: a history of the plan, with STOP whole steps. ENDING says what to do:\n\
+        unstarted: start it as a new run; due: start step STOP; open: deliver step STOP, or arm its timer, again;\n\
+        done, finished: nothing is left to deliver.\n\
+        no NUMBER PLACE DIVERGENCE CALLS: not to be resumed. README.md, \"How to read a refusal\", lists the numbers.\n\
+        Steps and records are counted from 0.\n\
+        verdict --help, verdict -h: this text; verdict --version: the version. A folder named -x is given as ./-x\n\
+        ",
+    );
+}
+
+// The verdict on a folder's files.
+fn judge(folder: &[u8]) {
     let mut journal = [0u8; 32770];
     let mut plan = [0u8; 32770];
-    let n = loading::contents(b"run.jnl", &mut journal);
-    let m = loading::contents(b"run.pln", &mut plan);
-    let line = verdict_line(&journal[..n], &plan[..m]);
+    let n = loading::contents(folder, b"run.jnl", &mut journal);
+    let m = loading::contents(folder, b"run.pln", &mut plan);
+    print(verdict_line(&journal[..n], &plan[..m]));
+}
+
+fn print(line: Line)
+    requires { ⌜ Counts (line .len) (line .bytes) ⌝ }
+{
     let bytes = line.bytes;
     let len = line.len;
     io::write_all(1, &bytes[..len]);

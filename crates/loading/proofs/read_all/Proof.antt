@@ -9,10 +9,10 @@ use Rattle.loading.proofs.read_all.Statement.{statement}
 use Rattle.loading.proofs.read_all.Tie as tie
 
 abbrev Inv-loop : tie.InvT-loop
-Inv-loop fd room₀ done₀ room done = (done ≤ length room) × (length room ≡ length room₀)
+Inv-loop fd path room₀ done₀ room done = (done ≤ length room) × (length room ≡ length room₀)
 
 abbrev μ-loop : tie.MeasureT-loop
-μ-loop fd room₀ done₀ room done = length room₀ - done
+μ-loop fd path room₀ done₀ room done = length room₀ - done
 
 returns-2 : tie.Need-returns-2 Inv-loop μ-loop
 returns-2 c = (search needs, sym (length-take-le _ _ (search needs)))
@@ -24,6 +24,7 @@ pub read-all-spec : {M : Type 1} → statement M
 read-all-spec =
     let shown = tie.spec
     Inv-loop μ-loop (λ c. search needs) (λ c. search needs) (λ c. search needs) (λ c. search needs) (λ c κs. search needs)
-    (λ c. search needs) (λ c. search needs) (λ c. search needs) (λ c. search needs) (λ c. search needs) (λ c κs. search needs)
-    (λ c. search needs) returns-2 (λ c. search needs) (λ c. search needs) (λ c. search needs) (λ c. search needs) returns-3 in
+    (λ c κs. search needs) (λ c. search needs) (λ c. search needs) (λ c. search needs) (λ c. search needs) (λ c. search needs)
+    (λ c κs. search needs) (λ c. search needs) returns-2 (λ c. search needs) (λ c. search needs) (λ c. search needs)
+    (λ c. search needs) returns-3 in
     tie.close shown

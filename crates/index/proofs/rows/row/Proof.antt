@@ -13,18 +13,17 @@ returns c =
     let rest = c .before .before .answer-fields in
     let at-name = c .before .before .before .before .before .before in
     let name = at-name .name-field in
-    let opened = at-name .before .before .opens-before in
-    let place = at-name .before .before .before .place-of in
-    let answer = at-name .before .before .before .before .verdict in
-    let args = at-name .before .before .before .before .before .before .before .before .before .args in (
-      row-of (args .name .now) (args .journal .now) (args .room .now) (name .last .0) (rest .last .0) (name .result) (rest .result)
-          (place .result) (answer .result) (opened .result) (name .ensures .0) (rest .ensures .0) (place .ensures) (opened .ensures)
-          ∙ ap (fields (args .name .now) (args .journal .now)) (answer .ensures .0),
+    let kind = at-name .before .before .telling-kind in
+    let answer = at-name .before .before .before .verdict in
+    let args = at-name .before .before .before .before .before .before .before .before .args in (
+      row-of (args .name .now) (args .journal .now) (args .plan .now) (args .room .now) (name .last .0) (rest .last .0) (name .result)
+          (rest .result) (kind .result) (answer .result) (name .ensures .0) (rest .ensures .0) (kind .ensures)
+          ∙ ap (fields (args .name .now) (args .journal .now) (args .plan .now)) (answer .ensures .0),
       rest .ensures .1,
     )
 
 pub row-spec : {M : Type 1} → statement M
 row-spec =
     tie.close
-    (tie.spec (λ c κs. search needs) (λ c κs. search needs) (λ c κs. search needs) (λ c κs. search needs) (λ c κs. search needs)
-    (λ c. search needs) returns)
+    (tie.spec (λ c κs. search needs) (λ c κs. search needs) (λ c κs. search needs) (λ c κs. search needs) (λ c. search needs)
+    returns)

@@ -8,7 +8,7 @@ use Rattle.lines.proofs.words.words_of.Tie as tie
 
 returns : tie.Need-returns
 unfolding wordsOf
-returns c = rw (c .before .before .before .answer .given .1, sym (c .before .number .ensures)) (c .said .ensures)
+returns c = rw (c .before .before .before .answer .given .1, sym (c .before .ending-detail .ensures)) (c .said .ensures)
 
 returns-2 : tie.Need-returns-2
 unfolding wordsOf

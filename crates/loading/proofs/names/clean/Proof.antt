@@ -1,7 +1,7 @@
--- `index::rows::clean` meets its contract: its test is the rule's.
+-- `loading::names::clean` meets its contract: its test is the rule's.
 -- Assumes nothing.
-use Rattle.index.proofs.rows.clean.Statement.{statement}
-use Rattle.index.proofs.rows.clean.Tie as tie
+use Rattle.loading.proofs.names.clean.Statement.{statement}
+use Rattle.loading.proofs.names.clean.Tie as tie
 
 returns : tie.Need-returns
 returns c = rw (c .if1 .taken)
