@@ -28,7 +28,7 @@ ended text last = text ++ (last ∷ [])
 abbrev pub kindBefore : List ℕ → ℕ → ℕ
 kindBefore journal place = cond (eqb place 0) 0 (kindIn journal (place - 1))
 
--- The kind of the entry that tells apart the words of one answer. At *open* it is the plan's step, at *finished* the last record,
+-- the kind of the entry that tells apart the words of one ending: at *open* the plan's step, at *finished* the last record
 abbrev pub endingKind : List ℕ → List ℕ → Ending → ℕ → ℕ → ℕ
 endingKind journal plan Ending.Unstarted stop records = 0
 endingKind journal plan Ending.Due stop records = 0
@@ -36,7 +36,7 @@ endingKind journal plan Ending.Done stop records = 0
 endingKind journal plan Ending.Open stop records = kindIn plan stop
 endingKind journal plan Ending.Finished stop records = kindBefore journal records
 
--- at 24 the record before the refused one, at 31 the refused one itself
+-- of one refusal: at 24 the record before the refused one, at 31 the refused one itself
 abbrev pub refusedKind : List ℕ → ℕ → ℕ → ℕ
 refusedKind journal number place =
     cond (eqb number 24) (kindBefore journal place) (cond (eqb number 31) (kindIn journal place) 0)

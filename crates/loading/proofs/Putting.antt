@@ -44,3 +44,7 @@ putting-loaded before text after n h =
           ∙ subst (λ (k : ℕ). drop k (paste before 0 text n) ≡ drop k before) at (drop-paste before 0 text n (omega arith) (h .some));
       same = h .same;
     }
+
+-- 0 leaves the room as it was
+pub loaded-none : (before after : List ℕ) → Loaded before 0 after → after ≡ before
+loaded-none before after h = h .beyond
