@@ -10,6 +10,7 @@ use crate::records::plain;
 use crate::rust_side::RustSide;
 use crate::scripts;
 use crate::walk::walk;
+use crate::whole::Changed;
 
 const RUN: u64 = 9;
 /// How deep every script is tried near the end and at the end.
@@ -50,12 +51,13 @@ impl Walked for Machines {
         side.machine_advance(record)
     }
 
-    fn compare_readers(both: &Both) {
+    fn compare_readers(both: &mut Both) {
         let rust = both.rust.read_machine();
         let proved = both.proved.read_machine();
         if rust != proved {
             both.differ(&rust, &proved);
         }
+        both.compare_whole(Changed::Machine);
     }
 }
 

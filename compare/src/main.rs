@@ -1,5 +1,5 @@
 //! Feeds the proved code and the Rust source it was ported from the same calls, and
-//! compares every answer and every reader's value after each call.
+//! compares every answer, every reader's value and the whole next state after each call.
 
 mod both;
 mod calls;
@@ -15,6 +15,7 @@ mod machine_ending;
 mod machine_vectors;
 mod markers;
 mod numbering;
+mod numbering_lines;
 mod proved_side;
 mod random;
 mod records;
@@ -25,6 +26,7 @@ mod timers;
 mod values;
 mod vectors;
 mod walk;
+mod whole;
 
 use std::process::ExitCode;
 use std::time::Instant;
@@ -42,8 +44,8 @@ compare --script-depth N  how long the scripts of the machines' exhaustive part 
 compare --seed N          the seed of the random parts
 compare --vectors FOLDER  only writes FOLDER/stdin and FOLDER/stdout: a fixed sample of
                           calls, and the answers of the Rust source
-compare --numbering       only writes what the Rust source says once every number is spent,
-                          in the lines of crates/numbering/stdout; about a minute
+compare --numbering       only writes what the Rust source says at the end of numbering, in the
+                          lines of crates/numbering/stdout; about a minute
 compare --help            this text
 
 When it is built, HISKURDO_RUST names the folder with the Rust source and HISKURDO_LIB

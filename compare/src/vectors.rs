@@ -14,7 +14,7 @@ use crate::long_runs::{legal, likely_legal};
 use crate::machine_vectors;
 use crate::random::Random;
 use crate::records::{KINDS, has_number, plain, right_number, wrong_numbers};
-use crate::rust_side::RustSide;
+use crate::rust_side::{Plain, RustSide};
 use crate::values;
 
 /// The most bytes of the file of calls.
