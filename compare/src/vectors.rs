@@ -46,7 +46,12 @@ pub fn write(folder: &str) -> io::Result<()> {
     let mut rust = RustSide::new();
     for call in sample() {
         line(&mut calls, &call);
-        line(&mut answers, &rust.answer(&call));
+        let answer = rust.answer(&call);
+        line(&mut answers, &answer);
+        if let Call::Advance(_) = call {
+            // the proved cursor is advanced by value and over a lent one
+            line(&mut answers, &answer);
+        }
     }
     assert!(calls.len() <= LIMIT, "{} bytes of calls", calls.len());
     fs::create_dir_all(folder)?;
