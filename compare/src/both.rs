@@ -67,7 +67,7 @@ impl Both {
     /// Compares what both sides hold.
     pub fn compare_whole(&mut self, changed: Changed) {
         if let Err((rust, proved)) = self.whole.same(changed, &self.rust, &self.proved) {
-            self.differ(&rust, &proved);
+            self.differ(&format_args!("{rust}"), &format_args!("{proved}"));
         }
     }
 

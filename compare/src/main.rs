@@ -23,6 +23,7 @@ mod rust_machine;
 mod rust_side;
 mod scripts;
 mod timers;
+mod unread;
 mod values;
 mod vectors;
 mod walk;

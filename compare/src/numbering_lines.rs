@@ -4,7 +4,8 @@ use waymaker_core::ReplayMachine;
 
 use crate::calls::{Answer, Call, CursorRead, MachineRead};
 use crate::ffi::Told;
-use crate::rust_side::{Plain, RustSide, told};
+use crate::rust_side::{Plain, RustSide};
+use crate::unread::Unread;
 
 /// Makes the call on a copy, says it, and returns the copy.
 pub fn after(label: &str, side: &RustSide, call: Call) -> RustSide {
@@ -52,18 +53,16 @@ fn cursor_in(read: &CursorRead) -> String {
     )
 }
 
-/// A machine has no reader of its phase and of the number that it offers: its text has them.
 fn machine_in(read: &MachineRead, machine: &ReplayMachine) -> String {
-    let text = format!("{machine:?}");
+    let Unread { next_seq, phase } = Unread::of(machine);
     format!(
-        "{}, phase {}, diverged {}",
+        "{}, phase {phase}, diverged {}",
         place_in(
             &read.position,
             &read.pending,
             &read.pending_timer,
-            &offer(field(&text, "next: "))
+            &next_seq
         ),
-        phase_number(field(&text, "phase: ")),
         read.diverged
     )
 }
@@ -89,30 +88,4 @@ fn six(told: &Told) -> String {
         e,
     } = told;
     format!("{number} {a} {b} {c} {d} {e}")
-}
-
-/// What stands after the name, to the end of its struct.
-fn field<'a>(text: &'a str, name: &str) -> &'a str {
-    let (_, rest) = text.split_once(name).expect("the value has that field");
-    let (field, _) = rest.split_once(" }").expect("and its struct ends");
-    field
-}
-
-fn offer(next: &str) -> Told {
-    let number = next
-        .strip_prefix("Some(EffectSeq(")
-        .and_then(|rest| rest.strip_suffix("))"));
-    match number {
-        Some(number) => told(1, &[number.parse().expect("a number is offered")]),
-        None => told(0, &[]),
-    }
-}
-
-fn phase_number(phase: &str) -> u64 {
-    match phase {
-        "Settled" => 0,
-        "AwaitingOutcome" => 1,
-        "AwaitingFiring" => 2,
-        _ => 3,
-    }
 }

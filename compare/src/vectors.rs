@@ -15,7 +15,9 @@ use crate::machine_vectors;
 use crate::random::Random;
 use crate::records::{KINDS, has_number, plain, right_number, wrong_numbers};
 use crate::rust_side::{Plain, RustSide};
+use crate::unread::Unread;
 use crate::values;
+use crate::whole::Changed;
 
 /// The most bytes of the file of calls.
 const LIMIT: usize = 64_000;
@@ -46,10 +48,17 @@ pub fn write(folder: &str) -> io::Result<()> {
     let mut rust = RustSide::new();
     for call in sample() {
         line(&mut calls, &call);
-        let answer = rust.answer(&call);
-        line(&mut answers, &answer);
+        let answer = rust.answer(&call).to_string();
+        match Changed::by(&call) {
+            Changed::Machine => {
+                let Unread { next_seq, phase } = Unread::of(&rust.machine);
+                let (offers, next) = (next_seq.number, next_seq.a);
+                line(&mut answers, &format!("{answer} {offers} {next} {phase}"));
+            }
+            _ => line(&mut answers, &answer),
+        }
         if let Call::Advance(_) = call {
-            // the proved cursor is advanced by value and over a lent one
+            // The proved cursor is advanced by value, and once more over a lent one.
             line(&mut answers, &answer);
         }
     }

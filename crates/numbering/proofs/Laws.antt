@@ -29,13 +29,11 @@ use Rattle.numbering.specs.Walk.{
   Marked,
   none,
   one-more,
-  replayingWith,
   offering,
   afterMarkers,
-  toLastRule,
   walkRule,
-  marksOf,
 }
+use Rattle.numbering.specs.Turns.{toLastRule, replayingWith, marksOf}
 
 begins : advanceRule (fresh walkedRun) start .machine ≡ afterMarkers 0
 unfolding advanceRule Cursor.advanceRule

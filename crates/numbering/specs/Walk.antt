@@ -1,25 +1,18 @@
 -- The walk to the end of numbering, from a fresh machine of run 7: 01, "Modules", 1, 4 and 5.
 use Prim.Native.Nat.{ℕ, _+_}
 use mathlib.Core.Path.{_≡_}
-use mathlib.Core.Bool.{Bool, false, _&&_}
-use lib.Dec.{eqb}
 use Rattle.ids.specs.declared.RunId.{RunId}
-use Rattle.ids.specs.declared.EffectIdAllocator.{EffectIdAllocator}
 use Rattle.ids.specs.declared.SeqOption.{SeqOption}
 use Rattle.ids.specs.declared.SeqOption.the-variants as SeqOption
 use Rattle.records.specs.declared.RecordRef.{RecordRef}
 use Rattle.records.specs.declared.RecordRef.the-variants as RecordRef
 use Rattle.cursor.specs.declared.State.the-variants as State
-use Rattle.cursor.specs.declared.Step.{Step}
-use Rattle.cursor.specs.declared.Step.the-variants as Step
 use Rattle.cursor.specs.declared.StepResult.{StepResult}
 use Rattle.cursor.specs.declared.StepResult.the-variants as StepResult
 use Rattle.cursor.specs.Advance.{stepOf}
-use Rattle.machine.specs.declared.Phase.{Phase}
 use Rattle.machine.specs.declared.Phase.the-variants as Phase
 use Rattle.machine.specs.declared.ReplayMachine.{ReplayMachine}
 use Rattle.machine.specs.Phases.{fresh, advanceRule}
-use Rattle.numbering.specs.declared.Counted.{Counted}
 use Rattle.numbering.specs.declared.Walked.{Walked}
 
 abbrev pub walkedRun : RunId
@@ -41,40 +34,19 @@ pub data Marked : ℕ → ReplayMachine → Type 0 where
   one-more : (n : ℕ) (m next : ReplayMachine) → Marked n m
       → advanceRule m (marker n) ≡ record { machine = next; answer = accepted n } → Marked (n + 1) next
 
--- a machine that replays
-abbrev pub replayingWith : EffectIdAllocator → Phase → ReplayMachine
-replayingWith ids phase = record { cursor = record { ids = ids; state = State.Replaying }; phase = phase }
-
 -- a machine of that run which replays, is settled and offers this
 abbrev pub offering : SeqOption → ReplayMachine
-offering next = replayingWith (record { run = walkedRun; next = next }) Phase.Settled
+offering next =
+    record {
+      cursor = record { ids = record { run = walkedRun; next = next }; state = State.Replaying };
+      phase = Phase.Settled;
+    }
 
 -- 01, "Modules", 1: "after committing s it offers s + 1"
 abbrev pub afterMarkers : ℕ → ReplayMachine
 afterMarkers n = offering (SeqOption.Some (record { 0 = n }))
 
--- all numbers but the last are spent
-abbrev pub toLastRule : Counted
-toLastRule = record { machine = afterMarkers 4294967295; markers = 4294967295 }
-
 -- ".. or nothing once s is 4,294,967,295"
 abbrev pub walkRule : Walked
 walkRule =
     record { before = afterMarkers 4294967295; machine = offering SeqOption.None; markers = 4294967296 }
-
--- whether the answer is the step of the marker with this number
-abbrev pub marksIn : ℕ → Step → Bool
-marksIn n (Step.RunStarted kind version body) = false
-marksIn n (Step.EffectScheduled p) = false
-marksIn n (Step.EffectCompleted id body) = false
-marksIn n (Step.EffectFailed id body) = false
-marksIn n (Step.TimerScheduled p) = false
-marksIn n (Step.TimerFired id) = false
-marksIn n (Step.RunCompleted body) = false
-marksIn n (Step.RunFailed body) = false
-marksIn n (Step.VersionMarker id gate version) =
-    eqb (id .run .0) 7 && (eqb (id .seq .0) n && (eqb (gate .0) 1 && eqb version 1))
-
-abbrev pub marksOf : ℕ → StepResult → Bool
-marksOf n (StepResult.Ok step) = marksIn n step
-marksOf n (StepResult.Err x) = false

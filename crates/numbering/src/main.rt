@@ -2,7 +2,8 @@
 // and all that is said of "no number left".
 // The cursors and the allocator that are tried are the walked machine's own.
 ghost use mathlib.Core.Path.{_≡_};
-ghost use Rattle.numbering.specs.Walk.{replayingWith, marksIn, marksOf, walkRule, toLastRule, Marked};
+ghost use Rattle.numbering.specs.Walk.{walkRule, Marked};
+ghost use Rattle.numbering.specs.Turns.{toLastRule, replayingWith, marksIn, marksOf};
 use cursor::ReplayCursor;
 use cursor::State;
 use cursor::Step;

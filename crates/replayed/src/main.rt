@@ -355,6 +355,18 @@ fn machine_readers(machine: MachineNumbers) {
     say(machines::hiskurdo_machine_pending_timer(machine));
     io::write_all(1, b" ");
     number(machines::hiskurdo_machine_diverged(machine) as u64);
+    unread(machine);
+}
+
+// What no reader of the machine says: the number that it offers, and its phase.
+fn unread(machine: MachineNumbers) {
+    let ids = machine.cursor.ids;
+    io::write_all(1, b" ");
+    number(ids.offers as u64);
+    io::write_all(1, b" ");
+    number(ids.next as u64);
+    io::write_all(1, b" ");
+    number(machine.phase as u64);
 }
 
 // What every reader of the cursor says.

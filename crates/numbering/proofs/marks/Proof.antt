@@ -2,7 +2,7 @@
 -- Assumes nothing.
 use borrow.Author.Needs.{needs}
 use Rattle.errors.proofs.Arms.{by-arm}
-use Rattle.numbering.specs.Walk.{marksOf}
+use Rattle.numbering.specs.Turns.{marksOf}
 use Rattle.numbering.proofs.marks.Statement.{statement}
 use Rattle.numbering.proofs.marks.Tie as tie
 

@@ -11,7 +11,7 @@ use Rattle.errors.proofs.Arms.{by-arm}
 use Rattle.cursor.specs.declared.Step.{Step}
 use Rattle.cursor.specs.declared.Step.the-variants as Step
 use Rattle.cursor.proofs.Step as the
-use Rattle.numbering.specs.Walk.{marksIn}
+use Rattle.numbering.specs.Turns.{marksIn}
 use Rattle.numbering.proofs.marks_in.Statement.{statement}
 use Rattle.numbering.proofs.marks_in.Tie as tie
 
