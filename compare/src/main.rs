@@ -38,7 +38,7 @@ const HELP: &str = "\
 Compares the proved code with the Rust source it was ported from, call by call.
 On the first difference: prints the calls and both answers, and exits with 1.
 
-compare                   all parts but the ends of numbering, some twenty seconds
+compare                   all parts but the ends of numbering, about half a minute
 compare --deep            deeper and longer, and the ends of numbering; up to half an hour
 compare --depth N         how long the sequences of the cursors' exhaustive part are
 compare --script-depth N  how long the scripts of the machines' exhaustive part are
