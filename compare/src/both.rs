@@ -5,13 +5,15 @@ use std::process;
 
 use crate::calls::{Answer, Call};
 use crate::proved_side::ProvedSide;
-use crate::rust_side::RustSide;
+use crate::rust_side::{Plain, RustSide};
+use crate::whole::{Changed, Whole};
 
 pub struct Both {
     pub rust: RustSide,
     pub proved: ProvedSide,
     /// How many calls were compared so far.
     pub compared: u64,
+    whole: Whole,
     /// The calls since the last `begin`, for the report of a difference.
     calls: Vec<Call>,
     /// What went before these calls, where they are too many to list.
@@ -31,6 +33,7 @@ impl Both {
             rust: RustSide::new(),
             proved: ProvedSide::new(),
             compared: 0,
+            whole: Whole::new(),
             calls: Vec::new(),
             before: String::new(),
         }
@@ -43,12 +46,13 @@ impl Both {
         self.call(call)
     }
 
-    /// Makes a call on both sides, and compares the answers and every reader.
+    /// Makes a call on both sides, and compares the answers, every reader and the whole value that the call may have changed.
     pub fn call(&mut self, call: Call) -> Answer {
         self.calls.push(call);
         let rust = self.rust.answer(&call);
         let proved = self.proved.answer(&call);
         self.compare(&rust, &proved);
+        self.compare_whole(Changed::by(&call));
         rust
     }
 
@@ -58,6 +62,13 @@ impl Both {
             self.differ(rust, proved);
         }
         self.compared += 1;
+    }
+
+    /// Compares what both sides hold.
+    pub fn compare_whole(&mut self, changed: Changed) {
+        if let Err((rust, proved)) = self.whole.same(changed, &self.rust, &self.proved) {
+            self.differ(&format_args!("{rust}"), &format_args!("{proved}"));
+        }
     }
 
     /// Tells in words the calls that were made past the list, and empties the list.

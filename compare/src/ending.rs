@@ -9,6 +9,7 @@ use crate::markers::{SLOW, Walked, marker, started, walk_to_slow};
 use crate::proved_side::ProvedSide;
 use crate::rust_side::RustSide;
 use crate::walk::walk;
+use crate::whole::Changed;
 
 const RUN: u64 = 7;
 /// How deep every sequence of records is tried near the end and at the end.
@@ -44,12 +45,13 @@ impl Walked for Cursors {
         side.advance(record)
     }
 
-    fn compare_readers(both: &Both) {
+    fn compare_readers(both: &mut Both) {
         let rust = both.rust.read_cursor();
         let proved = both.proved.read_cursor();
         if rust != proved {
             both.differ(&rust, &proved);
         }
+        both.compare_whole(Changed::Cursor);
     }
 }
 

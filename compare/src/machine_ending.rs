@@ -10,6 +10,7 @@ use crate::records::plain;
 use crate::rust_side::RustSide;
 use crate::scripts;
 use crate::walk::walk;
+use crate::whole::Changed;
 
 const RUN: u64 = 9;
 /// How deep every script is tried near the end and at the end.
@@ -22,6 +23,12 @@ const NO_CLOCK: u64 = 25;
 const REPLAYING: u64 = 1;
 const HALTED: u64 = 6;
 const BOUNDARY_KIND: u8 = 4;
+/// A recorded boundary, and one that is delivered or armed again.
+const RECORDED: u64 = 1;
+const AGAIN: u64 = 1;
+
+/// What closes a boundary with what is next.
+type Close = fn(NextNumbers) -> Call;
 
 pub fn run(_settings: &Settings, both: &mut Both) {
     both.begin(Call::NewMachine { run: RUN });
@@ -31,6 +38,7 @@ pub fn run(_settings: &Settings, both: &mut Both) {
         both.call(Call::MachineAdvance(marker(number)));
     }
     walk(both, DEPTH, scripts::alphabet);
+    with_the_last(both);
     both.call(Call::MachineAdvance(marker(u32::MAX)));
     at_the_end(both);
     walk(both, DEPTH, scripts::alphabet);
@@ -50,12 +58,32 @@ impl Walked for Machines {
         side.machine_advance(record)
     }
 
-    fn compare_readers(both: &Both) {
+    fn compare_readers(both: &mut Both) {
         let rust = both.rust.read_machine();
         let proved = both.proved.read_machine();
         if rust != proved {
             both.differ(&rust, &proved);
         }
+        both.compare_whole(Changed::Machine);
+    }
+}
+
+/// A schedule and a timer with the last number: recorded, delivered or armed again where history ends, and closed, with no number left.
+fn with_the_last(both: &mut Both) {
+    let (here, end) = (both.here(), NextNumbers::end());
+    let effect = (intent(next(2, u32::MAX)), Call::Outcome as Close, 3);
+    let timer = (
+        timer_intent(1, 0, next(5, u32::MAX)),
+        Call::TimerOutcome as Close,
+        6,
+    );
+    for (opener, close, kind) in [effect, timer] {
+        assert_eq!(answered(both, opener).0, RECORDED, "{opener:?}");
+        assert_eq!(once(both, close(end)).0, AGAIN, "{opener:?} is open");
+        let outcome = close(next(kind, u32::MAX));
+        assert_eq!(answered(both, outcome).0, kind.into(), "{outcome:?}");
+        unchanged(both, intent(end), EXHAUSTED);
+        both.back_to(&here);
     }
 }
 
@@ -66,7 +94,7 @@ fn at_the_end(both: &mut Both) {
     other_boundary(both);
     terminal(both);
     impossible(both);
-    openers_by_advance(both);
+    by_advance(both);
 }
 
 fn history_ended(both: &mut Both) {
@@ -126,7 +154,13 @@ fn impossible(both: &mut Both) {
     }
 }
 
-fn openers_by_advance(both: &mut Both) {
+/// The machine's own `advance`.
+fn by_advance(both: &mut Both) {
+    for kind in [7, 8] {
+        let (answer, machine) = once(both, Call::MachineAdvance(plain(kind, 0)));
+        assert_eq!(answer, kind.into(), "kind {kind} ends the run");
+        assert_eq!(machine.position.number, u64::from(kind) - 3, "kind {kind}");
+    }
     for kind in [2, 5, 9] {
         for s in [0, u32::MAX] {
             halts(both, Call::MachineAdvance(plain(kind, s)), EXHAUSTED);

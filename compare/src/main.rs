@@ -1,5 +1,5 @@
 //! Feeds the proved code and the Rust source it was ported from the same calls, and
-//! compares every answer and every reader's value after each call.
+//! compares every answer, every reader's value and the whole next state after each call.
 
 mod both;
 mod calls;
@@ -15,6 +15,7 @@ mod machine_ending;
 mod machine_vectors;
 mod markers;
 mod numbering;
+mod numbering_lines;
 mod proved_side;
 mod random;
 mod records;
@@ -23,9 +24,11 @@ mod rust_machine;
 mod rust_side;
 mod scripts;
 mod timers;
+mod unread;
 mod values;
 mod vectors;
 mod walk;
+mod whole;
 
 use std::process::ExitCode;
 use std::time::Instant;
@@ -36,15 +39,15 @@ const HELP: &str = "\
 Compares the proved code with the Rust source it was ported from, call by call.
 On the first difference: prints the calls and both answers, and exits with 1.
 
-compare                   all parts but the ends of numbering, some twenty seconds
+compare                   all parts but the ends of numbering, about half a minute
 compare --deep            deeper and longer, and the ends of numbering; up to half an hour
 compare --depth N         how long the sequences of the cursors' exhaustive part are
 compare --script-depth N  how long the scripts of the machines' exhaustive part are
 compare --seed N          the seed of the random parts
 compare --vectors FOLDER  only writes FOLDER/stdin and FOLDER/stdout: a fixed sample of
                           calls, and the answers of the Rust source
-compare --numbering       only writes what the Rust source says once every number is spent,
-                          in the lines of crates/numbering/stdout; about a minute
+compare --numbering       only writes what the Rust source says at the end of numbering, in the
+                          lines of crates/numbering/stdout; about a minute
 compare --help            this text
 
 When it is built, HISKURDO_RUST names the folder with the Rust source and HISKURDO_LIB

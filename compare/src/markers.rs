@@ -18,7 +18,7 @@ pub trait Walked {
     const NAME: &str;
     fn rust(side: &mut RustSide, record: &RecordNumbers) -> Told;
     fn proved(side: &mut ProvedSide, record: &RecordNumbers) -> Told;
-    fn compare_readers(both: &Both);
+    fn compare_readers(both: &mut Both);
 }
 
 pub fn started() -> RecordNumbers {

@@ -5,9 +5,9 @@ use crate::ffi::*;
 
 #[derive(Clone, Copy, PartialEq, Eq, Hash)]
 pub struct ProvedSide {
-    ids: IdsNumbers,
-    cursor: CursorNumbers,
-    machine: MachineNumbers,
+    pub ids: IdsNumbers,
+    pub cursor: CursorNumbers,
+    pub machine: MachineNumbers,
 }
 
 impl ProvedSide {

@@ -16,11 +16,26 @@ pub const BODY_LIMIT: u64 = 65_535;
 /// Every body is a slice of this buffer.
 static BUFFER: [u8; 2 * BODY_LIMIT as usize] = [0; 2 * BODY_LIMIT as usize];
 
+/// Types that have no `Clone` on purpose, but are plain numbers: they borrow nothing and have nothing to drop.
+pub trait Plain: Sized {
+    /// A second value, equal to this one.
+    fn copy(&self) -> Self {
+        const { assert!(!std::mem::needs_drop::<Self>()) };
+        // SAFETY: of plain numbers the same bytes are a valid value of their own.
+        unsafe { std::ptr::read(self) }
+    }
+}
+
+impl Plain for EffectIdAllocator {}
+impl Plain for ReplayCursor {}
+impl Plain for ReplayMachine {}
+impl Plain for RustSide {}
+
 #[derive(PartialEq)]
 pub struct RustSide {
-    ids: EffectIdAllocator,
-    cursor: ReplayCursor,
-    machine: ReplayMachine,
+    pub ids: EffectIdAllocator,
+    pub cursor: ReplayCursor,
+    pub machine: ReplayMachine,
 }
 
 impl RustSide {
@@ -30,14 +45,6 @@ impl RustSide {
             cursor: ReplayCursor::new(RunId(0)),
             machine: ReplayMachine::new(RunId(0)),
         }
-    }
-
-    /// A second side that stands where this one does.
-    pub fn copy(&self) -> RustSide {
-        const { assert!(!std::mem::needs_drop::<RustSide>()) };
-        // SAFETY: the types have no `Clone` on purpose, but they are plain numbers, borrow
-        // nothing and have nothing to drop, so the same bytes are valid values of their own.
-        unsafe { std::ptr::read(self) }
     }
 
     pub fn answer(&mut self, call: &Call) -> Answer {
@@ -101,16 +108,6 @@ impl RustSide {
         }
     }
 
-    /// Whether the cursor takes the record for a marker.
-    pub fn marks(&mut self, record: RecordRef) -> bool {
-        matches!(self.cursor.advance(record), Ok(Step::VersionMarker { .. }))
-    }
-
-    /// Whether the machine takes the record for a marker.
-    pub fn machine_marks(&mut self, record: RecordRef) -> bool {
-        matches!(self.machine.advance(record), Ok(Step::VersionMarker { .. }))
-    }
-
     pub fn read_cursor(&self) -> CursorRead {
         CursorRead {
             run: self.cursor.run().0,
@@ -140,7 +137,7 @@ impl RustSide {
 
     /// The number that a record for the machine must have; where none is, the last one.
     pub fn machine_number(&self) -> u32 {
-        let mut probe = self.copy().machine;
+        let mut probe = self.machine.copy();
         rust_machine::number(&mut probe)
     }
 }

@@ -14,8 +14,10 @@ use crate::long_runs::{legal, likely_legal};
 use crate::machine_vectors;
 use crate::random::Random;
 use crate::records::{KINDS, has_number, plain, right_number, wrong_numbers};
-use crate::rust_side::RustSide;
+use crate::rust_side::{Plain, RustSide};
+use crate::unread::Unread;
 use crate::values;
+use crate::whole::Changed;
 
 /// The most bytes of the file of calls.
 const LIMIT: usize = 64_000;
@@ -46,7 +48,19 @@ pub fn write(folder: &str) -> io::Result<()> {
     let mut rust = RustSide::new();
     for call in sample() {
         line(&mut calls, &call);
-        line(&mut answers, &rust.answer(&call));
+        let answer = rust.answer(&call).to_string();
+        match Changed::by(&call) {
+            Changed::Machine => {
+                let Unread { next_seq, phase } = Unread::of(&rust.machine);
+                let (offers, next) = (next_seq.number, next_seq.a);
+                line(&mut answers, &format!("{answer} {offers} {next} {phase}"));
+            }
+            _ => line(&mut answers, &answer),
+        }
+        if let Call::Advance(_) = call {
+            // The proved cursor is advanced by value, and once more over a lent one.
+            line(&mut answers, &answer);
+        }
     }
     assert!(calls.len() <= LIMIT, "{} bytes of calls", calls.len());
     fs::create_dir_all(folder)?;

@@ -5,7 +5,7 @@ use std::collections::HashMap;
 use crate::both::Both;
 use crate::calls::Call;
 use crate::proved_side::ProvedSide;
-use crate::rust_side::RustSide;
+use crate::rust_side::{Plain, RustSide};
 
 /// The calls that are made where the Rust stands so.
 type Alphabet = fn(&RustSide) -> Vec<Call>;

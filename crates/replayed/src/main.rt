@@ -1,7 +1,9 @@
-// Replays a fixed list of calls: each line of standard input is a call, and each line that is written its answers.
+// Replays a fixed list of calls: each line of standard input is a call, and what is written its answers. A cursor's `advance` is made
+// twice, by value and over a lent cursor, with a line for each.
 // The file stdout holds what the Rust answered to the same calls (docs/COMPARISON.md says how both were made).
 ghost use Prim.Native.Nat.{_<_, _≤_};
 ghost use lib.ListN.{length};
+use cursor::ReplayCursor;
 use errors::Told;
 use hiskurdo::CursorNumbers;
 use hiskurdo::IdsNumbers;
@@ -12,12 +14,21 @@ use hiskurdo::machines::MachineAnswered;
 use hiskurdo::machines::MachineNumbers;
 use hiskurdo::machines::PendingNumbers;
 use hiskurdo::machines::RequestNumbers;
+use ids::RunId;
+use records::Body;
+use records::RecordRef;
 
 // The allocator, the cursor and the machine that the calls work on.
 struct Current {
     ids: IdsNumbers,
-    cursor: CursorNumbers,
+    cursor: Cursors,
     machine: MachineNumbers,
+}
+
+// One cursor, advanced by value, and one that is lent for each call.
+struct Cursors {
+    by_value: CursorNumbers,
+    lent: ReplayCursor,
 }
 
 // The numbers of one line, and where the next line begins.
@@ -35,7 +46,7 @@ fn main() {
 fn replay(text: &[u8]) {
     let mut now = Current {
         ids: hiskurdo::hiskurdo_ids_for_run(0),
-        cursor: hiskurdo::hiskurdo_cursor_new(0),
+        cursor: new_cursors(0),
         machine: machines::hiskurdo_machine_new(0),
     };
     let mut at: usize = 0;
@@ -184,8 +195,7 @@ fn cursor_call(now: Current, op: u64, values: [u64; 12]) -> Current {
     let ids = now.ids;
     let machine = now.machine;
     let old = now.cursor;
-    let cursor = next_cursor(old, op, values);
-    readers(cursor);
+    let cursor = next_cursors(old, op, values);
     Current {
         ids,
         cursor,
@@ -193,17 +203,59 @@ fn cursor_call(now: Current, op: u64, values: [u64; 12]) -> Current {
     }
 }
 
-fn next_cursor(old: CursorNumbers, op: u64, values: [u64; 12]) -> CursorNumbers {
+fn new_cursors(run: u64) -> Cursors {
+    Cursors {
+        by_value: hiskurdo::hiskurdo_cursor_new(run),
+        lent: ReplayCursor::new(RunId(run)),
+    }
+}
+
+fn next_cursors(old: Cursors, op: u64, values: [u64; 12]) -> Cursors {
     if op == 12 {
-        return hiskurdo::hiskurdo_cursor_new(values[1]);
+        let fresh = new_cursors(values[1]);
+        readers(fresh.by_value);
+        return fresh;
     }
     let record = record_at(values, 1);
+    let by_value = advance(old.by_value, record);
+    io::write_all(1, b"\n");
+    let kept = old.lent;
+    Cursors {
+        by_value,
+        lent: advance_lent(kept, record),
+    }
+}
+
+fn advance(old: CursorNumbers, record: RecordNumbers) -> CursorNumbers {
     let advanced = hiskurdo::hiskurdo_cursor_advance(old, record);
     say(advanced.answer);
     io::write_all(1, b" ");
     value(hiskurdo::hiskurdo_record_kind(record));
     io::write_all(1, b" ");
-    advanced.cursor
+    let next = advanced.cursor;
+    readers(next);
+    next
+}
+
+fn advance_lent(old: ReplayCursor, numbers: RecordNumbers) -> ReplayCursor {
+    let record = record_of(numbers);
+    let advanced = lent::advanced(old, record);
+    let answer = advanced.answer;
+    let next = advanced.cursor;
+    say(answers::step_result_told(answer));
+    io::write_all(1, b" ");
+    number(record.kind().0 as u64);
+    io::write_all(1, b" ");
+    lent_readers(next);
+    next
+}
+
+fn record_of(n: RecordNumbers) -> RecordRef {
+    let body = Body {
+        start: n.start as usize,
+        len: n.m as usize,
+    };
+    RecordRef::of(n.kind, n.clock, n.a, n.s, n.d, n.m, body)
 }
 
 // The record whose seven numbers begin at `at`, at most at 5.
@@ -304,6 +356,18 @@ fn machine_readers(machine: MachineNumbers) {
     say(machines::hiskurdo_machine_pending_timer(machine));
     io::write_all(1, b" ");
     value(machines::hiskurdo_machine_diverged(machine));
+    unread(machine);
+}
+
+// What no reader of the machine says: the number that it offers, and its phase.
+fn unread(machine: MachineNumbers) {
+    let ids = machine.cursor.ids;
+    io::write_all(1, b" ");
+    number(ids.offers as u64);
+    io::write_all(1, b" ");
+    number(ids.next as u64);
+    io::write_all(1, b" ");
+    number(machine.phase as u64);
 }
 
 // What every reader of the cursor says.
@@ -333,6 +397,34 @@ fn value(told: Told) {
     } else {
         say(told);
     }
+}
+
+// The same of a cursor that was lent.
+fn lent_readers(cursor: ReplayCursor) {
+    number(cursor.run().0);
+    let position = cursor.position();
+    let told = answers::position_told(position);
+    io::write_all(1, b" ");
+    number(told.number);
+    io::write_all(1, b" ");
+    number(told.a);
+    io::write_all(1, b" ");
+    number(flag(position.is_terminal()));
+    io::write_all(1, b" ");
+    say(answers::pending_effect_told(cursor.pending()));
+    io::write_all(1, b" ");
+    say(answers::pending_timer_told(cursor.pending_timer()));
+    io::write_all(1, b" ");
+    say(cursor.next_seq().told());
+    io::write_all(1, b" ");
+    say(cursor.next_effect_id().told());
+}
+
+fn flag(yes: bool) -> u64 {
+    if yes {
+        return 1;
+    }
+    0
 }
 
 fn say(told: Told) {

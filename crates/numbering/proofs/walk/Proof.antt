@@ -1,22 +1,36 @@
--- `walk` is safe and ends: the markers are at most 2^32, and each turn counts one.
+-- `walk` meets its contract: one number is left after the loop, and its marker is accepted and leaves none.
 -- Assumes nothing.
-use Prim.Native.Nat.{_≤_, _-_}
 use borrow.Author.Needs.{needs}
+use mathlib.Core.Path.{_≡_, ap, _∙_}
+use Rattle.numbering.specs.declared.Counted.{Counted}
+use Rattle.numbering.proofs.Laws.{takes-last, answered, one-on, marks-it, never, walked-is}
 use Rattle.numbering.proofs.walk.Statement.{statement}
 use Rattle.numbering.proofs.walk.Tie as tie
 
-abbrev Inv-loop : tie.InvT-loop
-Inv-loop machine₀ markers₀ machine markers = markers ≤ 4294967296
+add-markers : tie.Need-add-markers
+add-markers c =
+    let counted = c .before .before .before .before .before .before .walk-to-last in
+    let many : counted .result .markers ≡ 4294967295 = ap (λ (k : Counted). k .markers) (counted .ensures .0) in
+    search needs
 
-abbrev μ-loop : tie.MeasureT-loop
-μ-loop machine₀ markers₀ machine markers = 4294967296 - markers
+returns : tie.Need-returns
+returns c =
+    let called = c .before .before .before in
+    let made = called .before in
+    let counted = made .before .before .walk-to-last .ensures in
+    let is = answered 4294967295 (made .marker .ensures) (called .advance .ensures) (ap (λ (k : Counted). k .machine) (counted .0)) takes-last in
+    (walked-is (counted .0) is, (counted .1, one-on 4294967295 (made .marker .ensures) (called .advance .ensures) (counted .1) is))
+
+returns-2 : tie.Need-returns-2
+returns-2 c =
+    let called = c .before .before .before in
+    let made = called .before in
+    let counted = made .before .before .walk-to-last .ensures in
+    let is = answered 4294967295 (made .marker .ensures) (called .advance .ensures) (ap (λ (k : Counted). k .machine) (counted .0)) takes-last in
+    never (c .before .marks .result) (c .if1 .left) (c .before .marks .ensures ∙ marks-it 4294967295 is)
 
 pub walk-spec : {M : Type 1} → statement M
 walk-spec =
-    tie.close
-    (tie.spec
-    Inv-loop
-    μ-loop
-    (λ c κs. tt) (λ c κs. tt) (λ c κs. tt) (λ c. search needs) (λ c. search needs) (λ c κs. tt)
-    (λ c κs. tt) (λ c. search needs) (λ c. search needs) (λ c. search needs) (λ c. search needs) (λ c. search needs)
-    (λ c κs. tt) (λ c. search needs) (λ c. search needs) (λ c. search needs) (λ c. search needs))
+    let shown = tie.spec
+    (λ c κs. search needs) (λ c κs. search needs) (λ c κs. search needs) (λ c κs. search needs) add-markers returns returns-2 in
+    tie.close shown
