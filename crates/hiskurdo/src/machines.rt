@@ -1,6 +1,6 @@
 // The machine for C and Rust.
 ghost use mathlib.Core.Path.{_≡_};
-ghost use Rattle.cursor.specs.Readers.{positionOf, pendingOf, pendingTimerOf};
+ghost use Rattle.cursor.specs.Readers.{runOf, positionOf, pendingOf, pendingTimerOf};
 ghost use Rattle.answers.specs.CursorTold.{positionTold, pendingEffectOptionTold, pendingTimerOptionTold, stepResultTold};
 ghost use Rattle.machine.specs.Phases as Phases;
 ghost use Rattle.machine.specs.Divergences.{divergenceOptionNumber, effectDivergence};
@@ -104,21 +104,21 @@ pub extern "C" fn hiskurdo_machine_new(run: u64) -> MachineNumbers
 
 #[no_mangle]
 pub extern "C" fn hiskurdo_machine_run(machine: MachineNumbers) -> u64
-    ensures { λ r. ⌜ r ≡ machineOf machine .cursor .ids .run .0 ⌝ }
+    ensures { λ r. ⌜ r ≡ runOf (machineOf machine .cursor) .0 ⌝ }
 {
     machine_of(machine).run().0
 }
 
 #[no_mangle]
 pub extern "C" fn hiskurdo_machine_position(machine: MachineNumbers) -> Told
-    ensures { λ r. ⌜ r ≡ positionTold (positionOf (machineOf machine .cursor .state)) ⌝ }
+    ensures { λ r. ⌜ r ≡ positionTold (positionOf (machineOf machine .cursor)) ⌝ }
 {
     answers::position_told(machine_of(machine).position())
 }
 
 #[no_mangle]
 pub extern "C" fn hiskurdo_machine_pending(machine: MachineNumbers) -> Told
-    ensures { λ r. ⌜ r ≡ pendingEffectOptionTold (pendingOf (machineOf machine .cursor .ids .run) (machineOf machine .cursor .state)) ⌝ }
+    ensures { λ r. ⌜ r ≡ pendingEffectOptionTold (pendingOf (machineOf machine .cursor)) ⌝ }
 {
     answers::pending_effect_told(machine_of(machine).pending())
 }
@@ -126,7 +126,7 @@ pub extern "C" fn hiskurdo_machine_pending(machine: MachineNumbers) -> Told
 #[no_mangle]
 pub extern "C" fn hiskurdo_machine_pending_timer(machine: MachineNumbers) -> Told
     ensures { λ r. ⌜ r ≡
-        pendingTimerOptionTold (pendingTimerOf (machineOf machine .cursor .ids .run) (machineOf machine .cursor .state)) ⌝ }
+        pendingTimerOptionTold (pendingTimerOf (machineOf machine .cursor)) ⌝ }
 {
     answers::pending_timer_told(machine_of(machine).pending_timer())
 }
