@@ -9,5 +9,5 @@ hiskurdo-machine-intent-spec =
     let shown = tie.spec
     (λ c κs. search needs) (λ c κs. search needs) (λ c κs. search needs) (λ c κs. search needs)
     (λ c κs. search needs) (λ c κs. search needs)
-    (λ c. rw (c .answered .ensures, c .before .intent-result-told .ensures, c .before .before .intent .ensures, c .before .before .before .next-of .ensures, c .before .before .before .before .request-of .ensures, c .before .before .before .before .before .machine-of .ensures)) in
+    (λ c. rw (c .answered .ensures, c .before .intent-result-told .ensures, c .before .before .intent .ensures .0, c .before .before .before .next-of .ensures, c .before .before .before .before .request-of .ensures, c .before .before .before .before .before .machine-of .ensures)) in
     tie.close shown

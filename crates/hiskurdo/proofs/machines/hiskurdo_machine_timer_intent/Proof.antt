@@ -9,5 +9,5 @@ hiskurdo-machine-timer-intent-spec =
     let shown = tie.spec
     (λ c κs. search needs) (λ c κs. search needs) (λ c κs. search needs) (λ c κs. search needs)
     (λ c κs. search needs) (λ c κs. search needs)
-    (λ c. rw (c .answered .ensures, c .before .timer-intent-result-told .ensures, c .before .before .timer-intent .ensures, c .before .before .before .next-of .ensures, c .before .before .before .before .machine-of .ensures, c .before .before .before .before .before .timer-request-of .ensures)) in
+    (λ c. rw (c .answered .ensures, c .before .timer-intent-result-told .ensures, c .before .before .timer-intent .ensures .0, c .before .before .before .next-of .ensures, c .before .before .before .before .machine-of .ensures, c .before .before .before .before .before .timer-request-of .ensures)) in
     tie.close shown
