@@ -1,6 +1,6 @@
 // The machine for C and Rust.
 ghost use mathlib.Core.Path.{_≡_};
-ghost use Rattle.cursor.specs.Readers.{positionOf, pendingOf, pendingTimerOf};
+ghost use Rattle.cursor.specs.Readers.{runOf, positionOf, pendingOf, pendingTimerOf};
 ghost use Rattle.answers.specs.CursorTold.{positionTold, pendingEffectOptionTold, pendingTimerOptionTold};
 ghost use Rattle.machine.specs.Phases as Phases;
 ghost use Rattle.machine.specs.Divergences.{divergenceOptionNumber, effectDivergence};
@@ -106,7 +106,7 @@ pub extern "C" fn hiskurdo_machine_new(run: u64) -> MachineNumbers
 
 #[no_mangle]
 pub extern "C" fn hiskurdo_machine_run(machine: MachineNumbers) -> Told
-    ensures { λ r. ⌜ r ≡ ofMachine (λ m. told1 0 (m .cursor .ids .run .0)) (machineOf machine) ⌝ }
+    ensures { λ r. ⌜ r ≡ ofMachine (λ m. told1 0 (runOf (m .cursor) .0)) (machineOf machine) ⌝ }
 {
     match given::machine_of(machine) {
         MachineOption::Some(m) => crate::value(m.run().0),
@@ -116,7 +116,7 @@ pub extern "C" fn hiskurdo_machine_run(machine: MachineNumbers) -> Told
 
 #[no_mangle]
 pub extern "C" fn hiskurdo_machine_position(machine: MachineNumbers) -> Told
-    ensures { λ r. ⌜ r ≡ ofMachine (λ m. positionTold (positionOf (m .cursor .state))) (machineOf machine) ⌝ }
+    ensures { λ r. ⌜ r ≡ ofMachine (λ m. positionTold (positionOf (m .cursor))) (machineOf machine) ⌝ }
 {
     match given::machine_of(machine) {
         MachineOption::Some(m) => answers::position_told(m.position()),
@@ -127,7 +127,7 @@ pub extern "C" fn hiskurdo_machine_position(machine: MachineNumbers) -> Told
 #[no_mangle]
 pub extern "C" fn hiskurdo_machine_pending(machine: MachineNumbers) -> Told
     ensures { λ r. ⌜ r ≡
-        ofMachine (λ m. pendingEffectOptionTold (pendingOf (m .cursor .ids .run) (m .cursor .state))) (machineOf machine) ⌝ }
+        ofMachine (λ m. pendingEffectOptionTold (pendingOf (m .cursor))) (machineOf machine) ⌝ }
 {
     match given::machine_of(machine) {
         MachineOption::Some(m) => answers::pending_effect_told(m.pending()),
@@ -138,7 +138,7 @@ pub extern "C" fn hiskurdo_machine_pending(machine: MachineNumbers) -> Told
 #[no_mangle]
 pub extern "C" fn hiskurdo_machine_pending_timer(machine: MachineNumbers) -> Told
     ensures { λ r. ⌜ r ≡
-        ofMachine (λ m. pendingTimerOptionTold (pendingTimerOf (m .cursor .ids .run) (m .cursor .state))) (machineOf machine) ⌝ }
+        ofMachine (λ m. pendingTimerOptionTold (pendingTimerOf (m .cursor))) (machineOf machine) ⌝ }
 {
     match given::machine_of(machine) {
         MachineOption::Some(m) => answers::pending_timer_told(m.pending_timer()),

@@ -11,7 +11,7 @@ returns : tie.Need-returns
 returns c =
     let asked = c .before .before .before .before .before .before .before .turn-of in
     by-arm (calledBy (c .before .before .before .before .before .before .before .before .args .machine) _) (sym (asked .ensures) ∙ c .before .before .before .before .before .m .given .1)
-    (rw (c .answered .ensures, c .before .intent-result-told .ensures, c .before .before .intent .ensures, c .before .before .before .request-of .ensures))
+    (rw (c .answered .ensures, c .before .intent-result-told .ensures, c .before .before .intent .ensures .0, c .before .before .before .request-of .ensures))
 
 returns-2 : tie.Need-returns-2
 returns-2 c =

@@ -14,7 +14,7 @@ returns c =
     let asked = c .before .before .before .before .before .before .turn-of in
     by-arm (requestedBy (args .machine) _) (sym (wanted .ensures) ∙ c .before .before .before .before .before .before .before .before .request .given .1)
     (by-arm (calledBy (args .machine) _) (sym (asked .ensures) ∙ c .before .before .before .before .m .given .1)
-    (rw (c .answered .ensures, c .before .timer-intent-result-told .ensures, c .before .before .timer-intent .ensures)))
+    (rw (c .answered .ensures, c .before .timer-intent-result-told .ensures, c .before .before .timer-intent .ensures .0)))
 
 returns-2 : tie.Need-returns-2
 returns-2 c =
