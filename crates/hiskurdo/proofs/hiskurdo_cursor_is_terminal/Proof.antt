@@ -11,7 +11,12 @@ returns : tie.Need-returns
 returns c =
     let named = c .before .before .before .before .before .before .before .cursor-of in
     let it = c .before .before .before .before .before .c in
-    by-arm (ofCursor _) (sym (named .ensures) ∙ it .given .1) (rw (c .value .ensures, c .before .flag .ensures, c .before .before .is-terminal .ensures, c .before .before .before .position .ensures))
+    by-arm (ofCursor _) (sym (named .ensures) ∙ it .given .1) (rw (
+      c .value .ensures,
+      c .before .flag .ensures,
+      c .before .before .is-terminal .ensures,
+      c .before .before .before .position .ensures,
+    ))
 
 returns-2 : tie.Need-returns-2
 returns-2 c =

@@ -11,7 +11,11 @@ returns : tie.Need-returns
 returns c =
     let named = c .before .before .before .before .before .before .offer-of in
     let it = c .before .before .before .before .ended in
-    by-arm (resumedBy _) (sym (named .ensures) ∙ it .given .1) (rw (c .value .ensures, c .before .ids-numbers .ensures, c .before .before .resume .ensures))
+    by-arm (resumedBy _) (sym (named .ensures) ∙ it .given .1) (rw (
+      c .value .ensures,
+      c .before .ids-numbers .ensures,
+      c .before .before .resume .ensures,
+    ))
 
 returns-2 : tie.Need-returns-2
 returns-2 c =

@@ -14,9 +14,11 @@ state-numbers-spec =
     (λ c. search needs) (λ c κs. search needs) (λ c. search needs) (λ c κs. search needs) (λ c κs. search needs)
     (λ c. by-arm (cursorNumbersFor (c .before .before .before .args .ids)) (c .before .enum-told .given .1) (c .bare-numbers .ensures))
     (λ c. by-arm (cursorNumbersFor (c .before .before .before .args .ids)) (c .before .enum-told2 .given .1) (c .bare-numbers2 .ensures))
-    (λ c. by-arm (cursorNumbersFor (c .before .before .before .before .args .ids)) (c .before .before .state .given .1) (c .scheduled-numbers .ensures))
+    (λ c. by-arm (cursorNumbersFor (c .before .before .before .before .args .ids)) (c .before .before .state .given .1)
+    (c .scheduled-numbers .ensures))
     (λ c. by-arm (cursorNumbersFor (c .before .before .before .before .args .ids)) (c .before .before .state2 .given .1) (c .armed-numbers .ensures))
     (λ c. by-arm (cursorNumbersFor (c .before .before .before .args .ids)) (c .before .enum-told3 .given .1) (c .bare-numbers3 .ensures))
     (λ c. by-arm (cursorNumbersFor (c .before .before .before .args .ids)) (c .before .enum-told4 .given .1) (c .bare-numbers4 .ensures))
-    (λ c. by-arm (cursorNumbersFor (c .before .before .before .before .before .args .ids)) (c .before .before .before .state3 .given .1) (rw (c .bare-numbers5 .ensures, c .before .number .ensures))) in
+    (λ c. by-arm (cursorNumbersFor (c .before .before .before .before .before .args .ids)) (c .before .before .before .state3 .given .1)
+    (rw (c .bare-numbers5 .ensures, c .before .number .ensures))) in
     tie.close shown

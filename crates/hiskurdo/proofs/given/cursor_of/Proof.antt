@@ -11,7 +11,8 @@ returns : tie.Need-returns
 returns c =
     let offered = c .before .before .before .before .before .before .before .ids-of in
     let at = c .before .before .before .state-of in
-    by-arms cursorWith (sym (offered .ensures) ∙ c .before .before .before .before .before .ids .given .1) (sym (at .ensures) ∙ c .before .state .given .1) refl
+    by-arms cursorWith (sym (offered .ensures) ∙ c .before .before .before .before .before .ids .given .1)
+    (sym (at .ensures) ∙ c .before .state .given .1) refl
 
 returns-2 : tie.Need-returns-2
 returns-2 c =

@@ -39,7 +39,15 @@ returns-7 c =
 returns-8 : tie.Need-returns-8
 returns-8 c =
     let others = c .match .rest in
-    rw (ne-eqb _ 1 (others .0 .0 .0 .0 .0 .0 .1), ne-eqb _ 2 (others .0 .0 .0 .0 .0 .1), ne-eqb _ 3 (others .0 .0 .0 .0 .1), ne-eqb _ 4 (others .0 .0 .0 .1), ne-eqb _ 5 (others .0 .0 .1), ne-eqb _ 6 (others .0 .1), ne-eqb _ 7 (others .1))
+    rw (
+      ne-eqb _ 1 (others .0 .0 .0 .0 .0 .0 .1),
+      ne-eqb _ 2 (others .0 .0 .0 .0 .0 .1),
+      ne-eqb _ 3 (others .0 .0 .0 .0 .1),
+      ne-eqb _ 4 (others .0 .0 .0 .1),
+      ne-eqb _ 5 (others .0 .0 .1),
+      ne-eqb _ 6 (others .0 .1),
+      ne-eqb _ 7 (others .1),
+    )
 
 pub divergence-of-spec : {M : Type 1} → statement M
 divergence-of-spec =

@@ -35,7 +35,14 @@ returns-6 c =
 returns-7 : tie.Need-returns-7
 returns-7 c =
     let others = c .match .rest in
-    rw (ne-eqb _ 21 (others .0 .0 .0 .0 .0 .1), ne-eqb _ 22 (others .0 .0 .0 .0 .1), ne-eqb _ 23 (others .0 .0 .0 .1), ne-eqb _ 24 (others .0 .0 .1), ne-eqb _ 25 (others .0 .1), ne-eqb _ 26 (others .1))
+    rw (
+      ne-eqb _ 21 (others .0 .0 .0 .0 .0 .1),
+      ne-eqb _ 22 (others .0 .0 .0 .0 .1),
+      ne-eqb _ 23 (others .0 .0 .0 .1),
+      ne-eqb _ 24 (others .0 .0 .1),
+      ne-eqb _ 25 (others .0 .1),
+      ne-eqb _ 26 (others .1),
+    )
 
 pub error-of-spec : {M : Type 1} → statement M
 error-of-spec =

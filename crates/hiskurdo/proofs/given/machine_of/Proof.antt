@@ -11,13 +11,15 @@ returns : tie.Need-returns
 returns c =
     let under = c .before .before .before .before .before .before .before .cursor-of in
     let in-phase = c .before .before .before .phase-of in
-    by-arms machineWith (sym (under .ensures) ∙ c .before .before .before .before .before .cursor .given .1) (sym (in-phase .ensures) ∙ c .before .phase .given .1) refl
+    by-arms machineWith (sym (under .ensures) ∙ c .before .before .before .before .before .cursor .given .1)
+    (sym (in-phase .ensures) ∙ c .before .phase .given .1) refl
 
 returns-2 : tie.Need-returns-2
 returns-2 c =
     let under = c .before .before .before .before .before .before .cursor-of in
     let in-phase = c .before .before .phase-of in
-    by-arms machineWith (sym (under .ensures) ∙ c .before .before .before .before .cursor .given .1) (sym (in-phase .ensures) ∙ c .enum-told .given .1) refl
+    by-arms machineWith (sym (under .ensures) ∙ c .before .before .before .before .cursor .given .1)
+    (sym (in-phase .ensures) ∙ c .enum-told .given .1) refl
 
 returns-3 : tie.Need-returns-3
 returns-3 c =

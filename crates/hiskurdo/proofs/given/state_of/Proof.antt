@@ -56,7 +56,15 @@ returns-8 c =
 returns-9 : tie.Need-returns-9
 returns-9 c =
     let others = c .match .rest in
-    rw (ne-eqb _ 0 (others .0 .0 .0 .0 .0 .0 .1), ne-eqb _ 1 (others .0 .0 .0 .0 .0 .1), ne-eqb _ 2 (others .0 .0 .0 .0 .1), ne-eqb _ 3 (others .0 .0 .0 .1), ne-eqb _ 4 (others .0 .0 .1), ne-eqb _ 5 (others .0 .1), ne-eqb _ 6 (others .1))
+    rw (
+      ne-eqb _ 0 (others .0 .0 .0 .0 .0 .0 .1),
+      ne-eqb _ 1 (others .0 .0 .0 .0 .0 .1),
+      ne-eqb _ 2 (others .0 .0 .0 .0 .1),
+      ne-eqb _ 3 (others .0 .0 .0 .1),
+      ne-eqb _ 4 (others .0 .0 .1),
+      ne-eqb _ 5 (others .0 .1),
+      ne-eqb _ 6 (others .1),
+    )
 
 pub state-of-spec : {M : Type 1} → statement M
 state-of-spec =

@@ -11,13 +11,15 @@ returns : tie.Need-returns
 returns c =
     let clock = c .before .before .before .before .before .before .before .spec-of in
     let capable = c .before .before .before .of in
-    by-arms requestWith (sym (clock .ensures) ∙ c .before .before .before .before .before .named .given .1) (sym (capable .ensures) ∙ c .before .board .given .1) refl
+    by-arms requestWith (sym (clock .ensures) ∙ c .before .before .before .before .before .named .given .1)
+    (sym (capable .ensures) ∙ c .before .board .given .1) refl
 
 returns-2 : tie.Need-returns-2
 returns-2 c =
     let clock = c .before .before .before .before .before .before .spec-of in
     let capable = c .before .before .of in
-    by-arms requestWith (sym (clock .ensures) ∙ c .before .before .before .before .named .given .1) (sym (capable .ensures) ∙ c .enum-told .given .1) refl
+    by-arms requestWith (sym (clock .ensures) ∙ c .before .before .before .before .named .given .1)
+    (sym (capable .ensures) ∙ c .enum-told .given .1) refl
 
 returns-3 : tie.Need-returns-3
 returns-3 c =

@@ -11,7 +11,8 @@ returns : tie.Need-returns
 returns c =
     let asked = c .before .before .before .before .before .before .before .machine-of in
     let about = c .before .before .before .next-of in
-    by-arms turnWith (sym (asked .ensures) ∙ c .before .before .before .before .before .m .given .1) (sym (about .ensures) ∙ c .before .next .given .1) refl
+    by-arms turnWith (sym (asked .ensures) ∙ c .before .before .before .before .before .m .given .1)
+    (sym (about .ensures) ∙ c .before .next .given .1) refl
 
 returns-2 : tie.Need-returns-2
 returns-2 c =

@@ -8,5 +8,10 @@ pub hiskurdo-divergence-from-spec : {M : Type 1} → statement M
 hiskurdo-divergence-from-spec =
     let shown = tie.spec
     (λ c κs. search needs) (λ c κs. search needs) (λ c κs. search needs) (λ c κs. search needs)
-    (λ c. rw (c .number .ensures, c .before .divergence-from .ensures, c .before .before .pending-from .ensures, c .before .before .before .request-of .ensures)) in
+    (λ c. rw (
+      c .number .ensures,
+      c .before .divergence-from .ensures,
+      c .before .before .pending-from .ensures,
+      c .before .before .before .request-of .ensures,
+    )) in
     tie.close shown

@@ -11,20 +11,24 @@ returns : tie.Need-returns
 returns c =
     let named = c .before .before .before .before .before .before .before .before .before .before .machine-of in
     let read = c .before .before .before .before .before .before .record-of in
-    by-arms (advancedBy (c .before .before .before .before .before .before .before .before .before .before .before .args .machine)) (sym (named .ensures) ∙ c .before .before .before .before .before .before .before .before .m .given .1) (sym (read .ensures) ∙ c .before .before .before .before .x .given .1)
+    by-arms (advancedBy (c .before .before .before .before .before .before .before .before .before .before .before .args .machine))
+    (sym (named .ensures) ∙ c .before .before .before .before .before .before .before .before .m .given .1)
+    (sym (read .ensures) ∙ c .before .before .before .before .x .given .1)
     (rw (c .answered .ensures, c .before .step-result-told .ensures, c .before .before .advance .ensures))
 
 returns-2 : tie.Need-returns-2
 returns-2 c =
     let named = c .before .before .before .before .before .before .before .machine-of in
     let read = c .before .before .before .record-of in
-    by-arms (advancedBy (c .before .before .before .before .before .before .before .before .args .machine)) (sym (named .ensures) ∙ c .before .before .before .before .before .m .given .1) (sym (read .ensures) ∙ c .before .enum-told .given .1)
+    by-arms (advancedBy (c .before .before .before .before .before .before .before .before .args .machine))
+    (sym (named .ensures) ∙ c .before .before .before .before .before .m .given .1) (sym (read .ensures) ∙ c .before .enum-told .given .1)
     (c .machine-kept .ensures)
 
 returns-3 : tie.Need-returns-3
 returns-3 c =
     let named = c .before .before .before .machine-of in
-    by-arms (advancedBy (c .before .before .before .before .args .machine)) (sym (named .ensures) ∙ c .before .enum-told2 .given .1) refl (rw (c .machine-kept2 .ensures))
+    by-arms (advancedBy (c .before .before .before .before .args .machine))
+    (sym (named .ensures) ∙ c .before .enum-told2 .given .1) refl (rw (c .machine-kept2 .ensures))
 
 pub hiskurdo-machine-advance-spec : {M : Type 1} → statement M
 hiskurdo-machine-advance-spec =

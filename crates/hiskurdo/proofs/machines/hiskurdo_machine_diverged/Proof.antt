@@ -11,7 +11,11 @@ returns : tie.Need-returns
 returns c =
     let named = c .before .before .before .before .before .before .machine-of in
     let it = c .before .before .before .before .m in
-    by-arm (ofMachine _) (sym (named .ensures) ∙ it .given .1) (rw (c .value .ensures, c .before .number .ensures, c .before .before .diverged .ensures))
+    by-arm (ofMachine _) (sym (named .ensures) ∙ it .given .1) (rw (
+      c .value .ensures,
+      c .before .number .ensures,
+      c .before .before .diverged .ensures,
+    ))
 
 returns-2 : tie.Need-returns-2
 returns-2 c =

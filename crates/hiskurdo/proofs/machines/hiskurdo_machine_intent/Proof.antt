@@ -10,13 +10,20 @@ use Rattle.hiskurdo.proofs.machines.hiskurdo_machine_intent.Tie as tie
 returns : tie.Need-returns
 returns c =
     let asked = c .before .before .before .before .before .before .before .turn-of in
-    by-arm (calledBy (c .before .before .before .before .before .before .before .before .args .machine) _) (sym (asked .ensures) ∙ c .before .before .before .before .before .m .given .1)
-    (rw (c .answered .ensures, c .before .intent-result-told .ensures, c .before .before .intent .ensures .0, c .before .before .before .request-of .ensures))
+    by-arm (calledBy (c .before .before .before .before .before .before .before .before .args .machine) _)
+    (sym (asked .ensures) ∙ c .before .before .before .before .before .m .given .1)
+    (rw (
+      c .answered .ensures,
+      c .before .intent-result-told .ensures,
+      c .before .before .intent .ensures .0,
+      c .before .before .before .request-of .ensures,
+    ))
 
 returns-2 : tie.Need-returns-2
 returns-2 c =
     let asked = c .before .before .before .turn-of in
-    by-arm (calledBy (c .before .before .before .before .args .machine) _) (sym (asked .ensures) ∙ c .before .enum-told .given .1) (c .machine-kept .ensures)
+    by-arm (calledBy (c .before .before .before .before .args .machine) _) (sym (asked .ensures) ∙ c .before .enum-told .given .1)
+    (c .machine-kept .ensures)
 
 pub hiskurdo-machine-intent-spec : {M : Type 1} → statement M
 hiskurdo-machine-intent-spec =

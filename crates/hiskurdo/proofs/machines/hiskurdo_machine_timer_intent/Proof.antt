@@ -12,7 +12,8 @@ returns c =
     let args = c .before .before .before .before .before .before .before .before .before .before .before .args in
     let wanted = c .before .before .before .before .before .before .before .before .before .before .timer-request-of in
     let asked = c .before .before .before .before .before .before .turn-of in
-    by-arm (requestedBy (args .machine) _) (sym (wanted .ensures) ∙ c .before .before .before .before .before .before .before .before .request .given .1)
+    by-arm (requestedBy (args .machine) _)
+    (sym (wanted .ensures) ∙ c .before .before .before .before .before .before .before .before .request .given .1)
     (by-arm (calledBy (args .machine) _) (sym (asked .ensures) ∙ c .before .before .before .before .m .given .1)
     (rw (c .answered .ensures, c .before .timer-intent-result-told .ensures, c .before .before .timer-intent .ensures .0)))
 

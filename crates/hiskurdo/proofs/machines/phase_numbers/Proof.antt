@@ -14,5 +14,6 @@ phase-numbers-spec =
     (λ c. by-arm (machineNumbersFor (c .before .before .args .cursor)) (c .enum-told .given .1) refl)
     (λ c. by-arm (machineNumbersFor (c .before .before .args .cursor)) (c .enum-told2 .given .1) refl)
     (λ c. by-arm (machineNumbersFor (c .before .before .args .cursor)) (c .enum-told3 .given .1) refl)
-    (λ c. by-arm (machineNumbersFor (c .before .before .before .before .args .cursor)) (c .before .before .phase .given .1) (rw (c .number .ensures))) in
+    (λ c. by-arm (machineNumbersFor (c .before .before .before .before .args .cursor)) (c .before .before .phase .given .1)
+    (rw (c .number .ensures))) in
     tie.close shown
