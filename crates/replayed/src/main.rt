@@ -17,6 +17,7 @@ use hiskurdo::machines::RequestNumbers;
 use ids::RunId;
 use records::Body;
 use records::RecordRef;
+use records::RecordRefOption;
 
 // The allocator, the cursor and the machine that the calls work on.
 struct Current {
@@ -237,8 +238,22 @@ fn advance(old: CursorNumbers, record: RecordNumbers) -> CursorNumbers {
     next
 }
 
-fn advance_lent(old: ReplayCursor, numbers: RecordNumbers) -> ReplayCursor {
-    let record = record_of(numbers);
+// The same record by `lent::advance`; the list has none that names nothing.
+fn advance_lent(old: ReplayCursor, n: RecordNumbers) -> ReplayCursor {
+    let body = Body {
+        start: n.start as usize,
+        len: n.m as usize,
+    };
+    match RecordRef::of(n.kind, n.clock, n.a, n.s, n.d, n.m, body) {
+        RecordRefOption::Some(record) => lend(old, record),
+        RecordRefOption::None => {
+            io::write_all(1, b"this record names nothing");
+            old
+        }
+    }
+}
+
+fn lend(old: ReplayCursor, record: RecordRef) -> ReplayCursor {
     let advanced = lent::advanced(old, record);
     let answer = advanced.answer;
     let next = advanced.cursor;
@@ -248,14 +263,6 @@ fn advance_lent(old: ReplayCursor, numbers: RecordNumbers) -> ReplayCursor {
     io::write_all(1, b" ");
     lent_readers(next);
     next
-}
-
-fn record_of(n: RecordNumbers) -> RecordRef {
-    let body = Body {
-        start: n.start as usize,
-        len: n.m as usize,
-    };
-    RecordRef::of(n.kind, n.clock, n.a, n.s, n.d, n.m, body)
 }
 
 // The record whose seven numbers begin at `at`, at most at 5.
