@@ -12,7 +12,7 @@ fn body() -> Body {
     Body { start: 0, len: 0 }
 }
 
-pub fn start() -> RecordRef
+pub(crate) fn start() -> RecordRef
     ensures { λ r. ⌜ r ≡ Walk.start ⌝ }
 {
     RecordRef::RunStarted {
@@ -22,7 +22,7 @@ pub fn start() -> RecordRef
     }
 }
 
-pub fn marker(seq: u32) -> RecordRef
+pub(crate) fn marker(seq: u32) -> RecordRef
     ensures { λ r. ⌜ r ≡ Walk.marker seq ⌝ }
 {
     RecordRef::VersionMarker {
@@ -32,7 +32,7 @@ pub fn marker(seq: u32) -> RecordRef
     }
 }
 
-pub fn schedule(seq: u32) -> RecordRef {
+pub(crate) fn schedule(seq: u32) -> RecordRef {
     RecordRef::EffectScheduled {
         seq: EffectSeq(seq),
         kind: ActivityKind(1),
@@ -41,21 +41,21 @@ pub fn schedule(seq: u32) -> RecordRef {
     }
 }
 
-pub fn effect_completed(seq: u32) -> RecordRef {
+pub(crate) fn effect_completed(seq: u32) -> RecordRef {
     RecordRef::EffectCompleted {
         seq: EffectSeq(seq),
         result: body(),
     }
 }
 
-pub fn effect_failed(seq: u32) -> RecordRef {
+pub(crate) fn effect_failed(seq: u32) -> RecordRef {
     RecordRef::EffectFailed {
         seq: EffectSeq(seq),
         error: body(),
     }
 }
 
-pub fn timer(seq: u32, clock_kind: ClockKind) -> RecordRef {
+pub(crate) fn timer(seq: u32, clock_kind: ClockKind) -> RecordRef {
     RecordRef::TimerScheduled {
         seq: EffectSeq(seq),
         clock_kind,
@@ -64,16 +64,16 @@ pub fn timer(seq: u32, clock_kind: ClockKind) -> RecordRef {
     }
 }
 
-pub fn fired(seq: u32) -> RecordRef {
+pub(crate) fn fired(seq: u32) -> RecordRef {
     RecordRef::TimerFired {
         seq: EffectSeq(seq),
     }
 }
 
-pub fn completed() -> RecordRef {
+pub(crate) fn completed() -> RecordRef {
     RecordRef::RunCompleted { result: body() }
 }
 
-pub fn failed() -> RecordRef {
+pub(crate) fn failed() -> RecordRef {
     RecordRef::RunFailed { error: body() }
 }

@@ -8,7 +8,7 @@ use ids::EffectIdAllocator;
 use machine::Next;
 use machine::ReplayMachine;
 
-pub fn cursors(cursor: ReplayCursor) {
+pub(crate) fn cursors(cursor: ReplayCursor) {
     lines::cursor_line(b"last number, cursor", cursor);
     let effect = lines::cursor_advance(
         b"last number, cursor, schedule",
@@ -32,12 +32,12 @@ pub fn cursors(cursor: ReplayCursor) {
     );
 }
 
-pub fn allocators(ids: EffectIdAllocator) {
+pub(crate) fn allocators(ids: EffectIdAllocator) {
     let spent = lines::allocate(b"last number, allocate", ids);
     lines::allocate(b"after it, allocate", spent);
 }
 
-pub fn effects(machine: ReplayMachine) {
+pub(crate) fn effects(machine: ReplayMachine) {
     lines::intent(
         b"last number, intent, end of history",
         machine,
@@ -75,7 +75,7 @@ pub fn effects(machine: ReplayMachine) {
     );
 }
 
-pub fn timers(machine: ReplayMachine) {
+pub(crate) fn timers(machine: ReplayMachine) {
     let both = ClockCapability::Persistent;
     lines::timer_intent(
         b"last number, timer_intent, end of history",

@@ -14,7 +14,7 @@ use records::RecordRef;
 
 // Calls, each with the machine that it leaves.
 
-pub fn advance(label: &[u8], machine: ReplayMachine, record: RecordRef) -> ReplayMachine {
+pub(crate) fn advance(label: &[u8], machine: ReplayMachine, record: RecordRef) -> ReplayMachine {
     let done = machine.advance(record);
     let answer = done.answer;
     let after = done.machine;
@@ -22,7 +22,7 @@ pub fn advance(label: &[u8], machine: ReplayMachine, record: RecordRef) -> Repla
     after
 }
 
-pub fn intent(label: &[u8], machine: ReplayMachine, next: Next) -> ReplayMachine {
+pub(crate) fn intent(label: &[u8], machine: ReplayMachine, next: Next) -> ReplayMachine {
     let request = EffectRequest {
         kind: ActivityKind(1),
         input_len: 0,
@@ -35,7 +35,7 @@ pub fn intent(label: &[u8], machine: ReplayMachine, next: Next) -> ReplayMachine
     after
 }
 
-pub fn outcome(label: &[u8], machine: ReplayMachine, next: Next) -> ReplayMachine {
+pub(crate) fn outcome(label: &[u8], machine: ReplayMachine, next: Next) -> ReplayMachine {
     let done = machine.outcome(next);
     let answer = done.answer;
     let after = done.machine;
@@ -44,7 +44,7 @@ pub fn outcome(label: &[u8], machine: ReplayMachine, next: Next) -> ReplayMachin
 }
 
 // The timer that is asked for is persistent.
-pub fn timer_intent(
+pub(crate) fn timer_intent(
     label: &[u8],
     machine: ReplayMachine,
     capability: ClockCapability,
@@ -65,7 +65,7 @@ pub fn timer_intent(
     after
 }
 
-pub fn timer_outcome(label: &[u8], machine: ReplayMachine, next: Next) -> ReplayMachine {
+pub(crate) fn timer_outcome(label: &[u8], machine: ReplayMachine, next: Next) -> ReplayMachine {
     let done = machine.timer_outcome(next);
     let answer = done.answer;
     let after = done.machine;
@@ -77,7 +77,11 @@ pub fn timer_outcome(label: &[u8], machine: ReplayMachine, next: Next) -> Replay
     after
 }
 
-pub fn cursor_advance(label: &[u8], cursor: ReplayCursor, record: RecordRef) -> ReplayCursor {
+pub(crate) fn cursor_advance(
+    label: &[u8],
+    cursor: ReplayCursor,
+    record: RecordRef,
+) -> ReplayCursor {
     let advanced = cursor.advance(record);
     let answer = advanced.answer;
     let next = advanced.cursor;
@@ -89,7 +93,7 @@ pub fn cursor_advance(label: &[u8], cursor: ReplayCursor, record: RecordRef) -> 
     next
 }
 
-pub fn allocate(label: &[u8], ids: EffectIdAllocator) -> EffectIdAllocator {
+pub(crate) fn allocate(label: &[u8], ids: EffectIdAllocator) -> EffectIdAllocator {
     let allocated = ids.allocate();
     let answer = allocated.answer;
     let next = allocated.ids;
@@ -101,12 +105,12 @@ pub fn allocate(label: &[u8], ids: EffectIdAllocator) -> EffectIdAllocator {
 
 // The parts of a line.
 
-pub fn count(label: &[u8], n: u64) {
+pub(crate) fn count(label: &[u8], n: u64) {
     say(label, n);
     io::write_all(1, b"\n");
 }
 
-pub fn cursor_line(label: &[u8], cursor: ReplayCursor) {
+pub(crate) fn cursor_line(label: &[u8], cursor: ReplayCursor) {
     io::write_all(1, label);
     io::write_all(1, b": ");
     cursor_is(cursor);

@@ -8,7 +8,7 @@ use machine::Next;
 use machine::ReplayMachine;
 use records::RecordRef;
 
-pub fn cursors(cursor: ReplayCursor) {
+pub(crate) fn cursors(cursor: ReplayCursor) {
     lines::cursor_line(b"cursor", cursor);
     lines::cursor_advance(
         b"cursor, marker with the last number",
@@ -27,7 +27,7 @@ pub fn cursors(cursor: ReplayCursor) {
 }
 
 // The machine's own `advance`.
-pub fn machines(machine: ReplayMachine) {
+pub(crate) fn machines(machine: ReplayMachine) {
     lines::advance(
         b"advance, marker with the last number",
         machine,
@@ -58,7 +58,7 @@ pub fn machines(machine: ReplayMachine) {
     lines::advance(b"advance, run failed", machine, history::failed());
 }
 
-pub fn effects(machine: ReplayMachine) {
+pub(crate) fn effects(machine: ReplayMachine) {
     lines::intent(b"intent, end of history", machine, Next::EndOfHistory);
     intent_on(b"intent, own schedule", machine, history::schedule(0));
     intent_on(
@@ -81,7 +81,7 @@ fn intent_on(label: &[u8], machine: ReplayMachine, record: RecordRef) {
     lines::intent(label, machine, Next::Record(record));
 }
 
-pub fn timers(machine: ReplayMachine) {
+pub(crate) fn timers(machine: ReplayMachine) {
     lines::timer_intent(
         b"timer_intent, end of history, no such clock",
         machine,
