@@ -1,11 +1,11 @@
-/* Hiskurdo for C: the readers of journal and plan, the verdict and the handover, as crates/library exports them.
+/* Hiskurdo for C: the readers of journal and plan, the verdict and the handover, as crates/hiskurdo exports them.
  *
  * The caller owes, for each pointer with its length: the pointer is not NULL, so many bytes can be read there, and nothing
  * writes to them during the call. Nothing checks that. Nothing else is owed: the bytes and the numbers may be any, no
  * alignment is asked for, and journal and plan may overlap.
  *
  * Every call then ends, reads those bytes alone, writes its answer alone and keeps nothing. What the comments here say of the
- * answer is proved; the contract in crates/library/src says it exactly.
+ * answer is proved; the contract in crates/hiskurdo/src says it exactly.
  *
  * README.md, "How to read a refusal", lists refusals and divergences; 60 is the replay core's alone. Records, steps, boundaries and bytes count from 0. */
 #ifndef HISKURDO_H
@@ -42,7 +42,7 @@ HiskurdoReadNumbers hiskurdo_read_plan(const uint8_t *file, size_t file_len);
  * that a record bears. The body is the len bytes from start of the same file, and lies within it; both are 0 where the kind
  * has no body. next_entry and next_body are what to pass for the one after it.
  * kind 0: nothing stands there. next_entry and next_body are those that were passed, all else is 0. The replay
- * core, libhiskurdo.a, refuses it as a record, with 60, and changes nothing. */
+ * core, libcore_exports.a, refuses it as a record, with 60, and changes nothing. */
 typedef struct {
     uint64_t kind;
     uint64_t clock;
@@ -97,7 +97,7 @@ typedef struct {
 HiskurdoHandoverNumbers hiskurdo_handover(const uint8_t *journal, size_t journal_len, const uint8_t *plan, size_t plan_len,
                                           uint64_t boundary);
 
-/* The layout: numbers of 8 bytes without gaps. link/run holds their names and order to crates/library/src. */
+/* The layout: numbers of 8 bytes without gaps. link/run holds their names and order to crates/hiskurdo/src. */
 static_assert(sizeof(HiskurdoReadNumbers) == 32 && offsetof(HiskurdoReadNumbers, count) == 24, "ReadNumbers");
 static_assert(sizeof(HiskurdoEntryNumbers) == 80 && offsetof(HiskurdoEntryNumbers, next_body) == 72, "EntryNumbers");
 static_assert(sizeof(HiskurdoVerdictNumbers) == 40 && offsetof(HiskurdoVerdictNumbers, d) == 32, "VerdictNumbers");

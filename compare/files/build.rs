@@ -1,4 +1,4 @@
-//! Links the proved code: `liblibrary.a` in the folder that `HISKURDO_LIB` names, unless the
+//! Links the proved code: `libhiskurdo.a` in the folder that `HISKURDO_LIB` names, unless the
 //! feature `files` is off. A relative folder is taken from the root of the repository.
 
 use std::env;
@@ -13,11 +13,11 @@ fn main() {
     let root = Path::new(env!("CARGO_MANIFEST_DIR")).join("../..");
     let folder = env::var("HISKURDO_LIB").unwrap_or_else(|_| "target/staticlib".to_string());
     let folder = root.join(folder);
-    let archive = folder.join("liblibrary.a");
+    let archive = folder.join("libhiskurdo.a");
     if !archive.exists() {
         println!("cargo:warning=there is no {}", archive.display());
     }
     println!("cargo:rustc-link-search=native={}", folder.display());
-    println!("cargo:rustc-link-lib=static=library");
+    println!("cargo:rustc-link-lib=static=hiskurdo");
     println!("cargo:rerun-if-changed={}", archive.display());
 }

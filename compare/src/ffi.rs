@@ -1,7 +1,7 @@
-//! The proved code, linked as a static library: the exports of crates/hiskurdo.
+//! The proved code, linked as a static library: the exports of crates/core_exports.
 //!
 //! Every type here is plain numbers. Nothing checks these declarations against
-//! crates/hiskurdo/src/lib.rt, so the two are kept side by side.
+//! crates/core_exports/src/lib.rt, so the two are kept side by side.
 
 /// An answer in numbers: its own number, then its values, 0 where it has fewer than five.
 #[repr(C)]

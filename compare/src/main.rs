@@ -47,11 +47,11 @@ compare --seed N          the seed of the random parts
 compare --vectors FOLDER  only writes FOLDER/stdin and FOLDER/stdout: a fixed sample of
                           calls, and the answers of the Rust source
 compare --numbering       only writes what the Rust source says at the end of numbering, in the
-                          lines of crates/numbering/stdout; about a minute
+                          lines of crates/test_numbering/stdout; about a minute
 compare --help            this text
 
 When it is built, HISKURDO_RUST names the folder with the Rust source and HISKURDO_LIB
-the folder with libhiskurdo.a; a relative one is taken from the root of the repository.";
+the folder with libcore_exports.a; a relative one is taken from the root of the repository.";
 
 /// How much is compared.
 pub struct Settings {

@@ -39,7 +39,7 @@ compare-files --part NAME  one of: files, verdicts, lists
 compare-files --depth N    the part lists: every list of up to N records
 compare-files --times N    N times as many files and pairs at random
 compare-files --seed N     the seed of what is random
-compare-files --store DIR  only writes DIR/damaged and DIR/verdicts, stdin and stdout: fixed
+compare-files --store DIR  only writes DIR/test_files and DIR/test_pairs, stdin and stdout: fixed
                            lists of files and of pairs, and the answers of the plain Rust
 compare-files --bench      only times both sides on full files, and their growth
 compare-files --calls SIDE CASE N
@@ -48,7 +48,7 @@ compare-files --calls SIDE CASE N
 compare-files --help       this text
 
 When it is built, HISKURDO_RUST names the folder with the Rust source and HISKURDO_LIB the
-folder with liblibrary.a; a relative one is taken from the root of the repository.";
+folder with libhiskurdo.a; a relative one is taken from the root of the repository.";
 
 /// How much is compared.
 pub struct Settings {

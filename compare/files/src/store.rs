@@ -27,12 +27,12 @@ const REFUSALS: [(u64, u64); 9] = [
     (31, 0),
 ];
 
-/// Writes `damaged` and `verdicts` in the folder, each with `stdin` and `stdout`.
+/// Writes `test_files` and `test_pairs` in the folder, each with `stdin` and `stdout`.
 pub fn write(folder: &str) -> io::Result<()> {
     let (files, answers) = damaged();
-    write_list(&Path::new(folder).join("damaged"), &files, &answers)?;
+    write_list(&Path::new(folder).join("test_files"), &files, &answers)?;
     let (pairs, answers) = verdicts();
-    write_list(&Path::new(folder).join("verdicts"), &pairs, &answers)
+    write_list(&Path::new(folder).join("test_pairs"), &pairs, &answers)
 }
 
 fn write_list(folder: &Path, list: &str, answers: &str) -> io::Result<()> {

@@ -1,3 +1,2 @@
-pub mod Given
 pub mod Numbers
-pub mod MachineNumbers
+pub mod VerdictNumbers

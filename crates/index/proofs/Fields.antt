@@ -10,7 +10,7 @@ use Rattle.histories.specs.declared.Answer.{Answer}
 use Rattle.lines.specs.declared.Line.{Line}
 use Rattle.lines.specs.Line.{Holds}
 use Rattle.lines.proofs.Laws.{held-len, held-front}
-use Rattle.loading.specs.Names.{clean}
+use Rattle.file_bytes.specs.Names.{clean}
 use Rattle.index.specs.Row.{cleaned, ended, tellingKind, answerFields, fields, Fielded}
 
 -- the first n bytes of a text stand at a place, and all else is as it was

@@ -12,7 +12,7 @@ use Rattle.histories.specs.declared.Answer.{Answer}
 use Rattle.histories.specs.declared.Answer.the-variants as Answer
 use Rattle.lines.specs.Line.{lineOf}
 use Rattle.lines.specs.Words.{wordsOf, resumeOf}
-use Rattle.loading.specs.Names.{clean}
+use Rattle.file_bytes.specs.Names.{clean}
 use Rattle.resume.specs.Verdict.{verdictRule}
 
 -- a folder's name as it is shown

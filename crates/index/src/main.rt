@@ -6,7 +6,7 @@ mod rows;
 
 ghost use Prim.Native.Nat.{_≤_};
 ghost use lib.ListN.{length};
-use loading::names::Asked;
+use file_bytes::names::Asked;
 
 fn main() {
     let count = os::arg_count();
@@ -36,8 +36,8 @@ fn asked_by(count: usize) -> Asked {
 
 fn asked_at(i: usize) -> Asked {
     let mut name = io::buffer();
-    let n = loading::argument(i, &mut name);
-    loading::names::asked_for(&name[..n])
+    let n = file_bytes::argument(i, &mut name);
+    file_bytes::names::asked_for(&name[..n])
 }
 
 fn is_folder(asked: Asked) -> bool {
@@ -83,9 +83,9 @@ fn folders(count: usize) {
 // The row of one argument; false where it cannot be written.
 fn folder(i: usize, journal: &mut [u8], plan: &mut [u8]) -> bool {
     let mut name = io::buffer();
-    let n = loading::argument(i, &mut name);
-    let j = loading::contents(&name[..n], b"run.jnl", journal);
-    let p = loading::contents(&name[..n], b"run.pln", plan);
+    let n = file_bytes::argument(i, &mut name);
+    let j = file_bytes::contents(&name[..n], b"run.jnl", journal);
+    let p = file_bytes::contents(&name[..n], b"run.pln", plan);
     print_row(&name[..n], &journal[..j], &plan[..p])
 }
 

@@ -35,7 +35,7 @@ fn name_field(room: &mut [u8], name: &[u8]) -> usize
 {
     let mut i = 0;
     while i < name.len() {
-        room[i] = loading::names::clean(name[i]);
+        room[i] = file_bytes::names::clean(name[i]);
         i += 1;
     }
     room[i] = b'\t';

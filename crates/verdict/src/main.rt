@@ -5,8 +5,8 @@
 ghost use Rattle.io.specs.Counts.{Counts};
 ghost use Rattle.lines.specs.Line.{lineOf, Holds};
 ghost use Rattle.resume.specs.Verdict.{verdictRule};
+use file_bytes::names::Asked;
 use lines::Line;
-use loading::names::Asked;
 
 fn main() {
     let count = os::arg_count();
@@ -19,8 +19,8 @@ fn main() {
         return;
     }
     let mut name = io::buffer();
-    let n = loading::argument(1, &mut name);
-    match loading::names::asked_for(&name[..n]) {
+    let n = file_bytes::argument(1, &mut name);
+    match file_bytes::names::asked_for(&name[..n]) {
         Asked::Folder => judge(&name[..n]),
         Asked::Help => usage(1),
         Asked::Version => print(lines::version()),
@@ -48,8 +48,8 @@ fn usage(fd: i32) {
 fn judge(folder: &[u8]) {
     let mut journal = [0u8; 32770];
     let mut plan = [0u8; 32770];
-    let n = loading::contents(folder, b"run.jnl", &mut journal);
-    let m = loading::contents(folder, b"run.pln", &mut plan);
+    let n = file_bytes::contents(folder, b"run.jnl", &mut journal);
+    let m = file_bytes::contents(folder, b"run.pln", &mut plan);
     print(verdict_line(&journal[..n], &plan[..m]));
 }
 

@@ -1,0 +1,15 @@
+-- `resolve_told` meets its contract: each case has its listed number and values.
+-- Assumes nothing.
+use borrow.Author.Needs.{needs}
+use Rattle.errors.proofs.Arms.{by-arm}
+use Rattle.answer_numbers.specs.MachineTold.{resolveTold}
+use Rattle.answer_numbers.proofs.machines.resolve_told.Statement.{statement}
+use Rattle.answer_numbers.proofs.machines.resolve_told.Tie as tie
+
+pub resolve-told-spec : {M : Type 1} → statement M
+resolve-told-spec =
+    let shown = tie.spec
+    (λ c. search needs) (λ c κs. search needs) (λ c. search needs) (λ c κs. search needs)
+    (λ c. by-arm resolveTold (c .before .before .resolve .given .1) (c .replayed .ensures))
+    (λ c. by-arm resolveTold (c .before .before .resolve2 .given .1) (c .boundary .ensures)) in
+    tie.close shown

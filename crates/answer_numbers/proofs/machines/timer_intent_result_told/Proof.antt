@@ -1,0 +1,15 @@
+-- `timer_intent_result_told` meets its contract: each case has its listed number and values.
+-- Assumes nothing.
+use borrow.Author.Needs.{needs}
+use Rattle.errors.proofs.Arms.{by-arm}
+use Rattle.answer_numbers.specs.MachineTold.{timerIntentResultTold}
+use Rattle.answer_numbers.proofs.machines.timer_intent_result_told.Statement.{statement}
+use Rattle.answer_numbers.proofs.machines.timer_intent_result_told.Tie as tie
+
+pub timer-intent-result-told-spec : {M : Type 1} → statement M
+timer-intent-result-told-spec =
+    let shown = tie.spec
+    (λ c. search needs) (λ c κs. search needs) (λ c. search needs) (λ c κs. search needs)
+    (λ c. by-arm timerIntentResultTold (c .before .before .result .given .1) (c .timer-intent-told .ensures))
+    (λ c. by-arm timerIntentResultTold (c .before .before .result2 .given .1) (c .told .ensures)) in
+    tie.close shown

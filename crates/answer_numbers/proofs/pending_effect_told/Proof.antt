@@ -1,0 +1,15 @@
+-- `pending_effect_told` meets its contract: each case has its listed number and values.
+-- Assumes nothing.
+use borrow.Author.Needs.{needs}
+use Rattle.errors.proofs.Arms.{by-arm}
+use Rattle.answer_numbers.specs.CursorTold.{pendingEffectOptionTold}
+use Rattle.answer_numbers.proofs.pending_effect_told.Statement.{statement}
+use Rattle.answer_numbers.proofs.pending_effect_told.Tie as tie
+
+pub pending-effect-told-spec : {M : Type 1} → statement M
+pending-effect-told-spec =
+    let shown = tie.spec
+    (λ c. search needs) (λ c κs. search needs) (λ c. search needs) (λ c κs. search needs)
+    (λ c. by-arm pendingEffectOptionTold (c .before .before .pending .given .1) (c .open-effect .ensures))
+    (λ c. by-arm pendingEffectOptionTold (c .before .enum-told .given .1) (c .new .ensures)) in
+    tie.close shown

@@ -1,0 +1,11 @@
+-- `hiskurdo::nothing_here` meets its contract: by its two calls.
+-- Assumes nothing.
+use borrow.Author.Needs.{needs}
+use Rattle.hiskurdo.proofs.nothing_here.Statement.{statement}
+use Rattle.hiskurdo.proofs.nothing_here.Tie as tie
+
+pub nothing-here-spec : {M : Type 1} → statement M
+nothing-here-spec =
+    let shown = tie.spec
+    (λ c κs. search needs) (λ c κs. search needs) (λ c. rw (c .entry-numbers .ensures, c .before .entry-with .ensures)) in
+    tie.close shown

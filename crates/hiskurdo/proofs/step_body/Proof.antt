@@ -1,0 +1,14 @@
+-- `hiskurdo::step_body` meets its contract: an effect has its input.
+-- Assumes nothing.
+use borrow.Author.Needs.{needs}
+use mathlib.Core.Path.{refl}
+use Rattle.errors.proofs.Arms.{by-arm}
+use Rattle.hiskurdo.specs.Numbers.{stepBody}
+use Rattle.hiskurdo.proofs.step_body.Statement.{statement}
+use Rattle.hiskurdo.proofs.step_body.Tie as tie
+
+pub step-body-spec : {M : Type 1} → statement M
+step-body-spec =
+    let shown = tie.spec (λ c. search needs) (λ c. search needs) (λ c. by-arm stepBody (c .before .step .given .1) refl)
+    (λ c. by-arm stepBody (c .enum-told .given .1) refl) in
+    tie.close shown

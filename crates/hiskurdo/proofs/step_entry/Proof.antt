@@ -1,0 +1,16 @@
+-- `hiskurdo::step_entry` meets its contract: each step has its row.
+-- Assumes nothing.
+use borrow.Author.Needs.{needs}
+use Rattle.errors.proofs.Arms.{by-arm}
+use Rattle.files.specs.Encoding.{stepEntry}
+use Rattle.hiskurdo.proofs.step_entry.Statement.{statement}
+use Rattle.hiskurdo.proofs.step_entry.Tie as tie
+
+pub step-entry-spec : {M : Type 1} → statement M
+step-entry-spec =
+    let shown = tie.spec
+    (λ c. search needs) (λ c. search needs) (λ c. search needs) (λ c κs. search needs) (λ c. search needs)
+    (λ c κs. search needs) (λ c κs. search needs) (λ c κs. search needs)
+    (λ c. by-arm stepEntry (c .before .before .step .given .1) (c .entry-with .ensures))
+    (λ c. by-arm stepEntry (c .before .before .before .before .step2 .given .1) (rw (c .entry-with2 .ensures, c .before .deadline .ensures, c .before .before .clock-kind .ensures))) in
+    tie.close shown

@@ -1,0 +1,15 @@
+-- `hiskurdo::verdicts::hiskurdo_verdict` meets its contract: by the verdict's answer.
+-- Assumes nothing.
+use borrow.Author.Needs.{needs}
+use mathlib.Core.Path.{refl, sym, _∙_}
+use Rattle.errors.proofs.Arms.{by-arm}
+use Rattle.hiskurdo.specs.VerdictNumbers.{verdictNumbers}
+use Rattle.hiskurdo.proofs.verdicts.hiskurdo_verdict.Statement.{statement}
+use Rattle.hiskurdo.proofs.verdicts.hiskurdo_verdict.Tie as tie
+
+pub hiskurdo-verdict-spec : {M : Type 1} → statement M
+hiskurdo-verdict-spec =
+    let shown = tie.spec (λ c κs. search needs) (λ c. search needs) (λ c κs. search needs) (λ c. search needs)
+    (λ c. by-arm verdictNumbers (sym (c .before .before .before .before .verdict .ensures .0) ∙ c .before .before .ending .given .1) (rw (c .number .ensures)))
+    (λ c. by-arm verdictNumbers (sym (c .before .before .before .verdict .ensures .0) ∙ c .before .number2 .given .1) refl) in
+    tie.close shown
