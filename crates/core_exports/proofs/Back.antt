@@ -32,19 +32,19 @@ use Rattle.core_exports.specs.declared.given.PhaseOption.{PhaseOption}
 use Rattle.core_exports.specs.declared.given.PhaseOption.the-variants as PhaseOption
 use Rattle.core_exports.specs.declared.given.MachineOption.{MachineOption}
 use Rattle.core_exports.specs.declared.given.MachineOption.the-variants as MachineOption
-use Rattle.core_exports.specs.Given.{idsOf, errorOf, haltedBy, stateOf, cursorWith, cursorOf, divergenceOf, divergedBy, phaseOf, machineWith, machineOf}
+use Rattle.core_exports.specs.Given.{idsNamed, errorNamed, haltedBy, stateNamed, cursorWith, cursorNamed, divergenceNamed, divergedBy, phaseNamed, machineWith, machineNamed}
 use Rattle.core_exports.specs.Numbers.{idsNumbersFor, idsNumbers, cursorNumbersFor, cursorNumbers}
 use Rattle.core_exports.specs.MachineNumbers.{machineNumbersFor, machineNumbers}
 use Rattle.core_exports.proofs.Arms.{by-arms}
 
-offer-back : (run : RunId) (next : SeqOption) → idsOf (idsNumbersFor (run .0) next) ≡ IdsOption.Some (record { run = run; next = next })
+offer-back : (run : RunId) (next : SeqOption) → idsNamed (idsNumbersFor (run .0) next) ≡ IdsOption.Some (record { run = run; next = next })
 offer-back run (SeqOption.Some seq) = refl
 offer-back run SeqOption.None = refl
 
-pub ids-back : (ids : EffectIdAllocator) → idsOf (idsNumbers ids) ≡ IdsOption.Some ids
+pub ids-back : (ids : EffectIdAllocator) → idsNamed (idsNumbers ids) ≡ IdsOption.Some ids
 ids-back ids = offer-back (ids .run) (ids .next)
 
-error-back : (x : KernelError) → errorOf (errorNumber x) ≡ ErrorOption.Some x
+error-back : (x : KernelError) → errorNamed (errorNumber x) ≡ ErrorOption.Some x
 error-back KernelError.IdExhausted = refl
 error-back KernelError.NondeterministicWorkflow = refl
 error-back KernelError.IncompatibleWorkflow = refl
@@ -52,7 +52,7 @@ error-back KernelError.MalformedHistory = refl
 error-back KernelError.NoPersistentClock = refl
 error-back KernelError.ClockWentBackwards = refl
 
-state-back : (ids : IdsNumbers) (state : State) → stateOf (cursorNumbersFor ids state) ≡ StateOption.Some state
+state-back : (ids : IdsNumbers) (state : State) → stateNamed (cursorNumbersFor ids state) ≡ StateOption.Some state
 state-back ids State.BeforeRun = refl
 state-back ids State.Replaying = refl
 state-back ids (State.AwaitingOutcome scheduled) = refl
@@ -71,12 +71,12 @@ beside ids State.RunCompleted = refl
 beside ids State.RunFailed = refl
 beside ids (State.Halted x) = refl
 
-pub cursor-back : (c : ReplayCursor) → cursorOf (cursorNumbers c) ≡ CursorOption.Some c
+pub cursor-back : (c : ReplayCursor) → cursorNamed (cursorNumbers c) ≡ CursorOption.Some c
 cursor-back c =
     sym
-    (by-arms cursorWith (ap idsOf (beside (idsNumbers (c .ids)) (c .state)) ∙ ids-back (c .ids)) (state-back (idsNumbers (c .ids)) (c .state)) refl)
+    (by-arms cursorWith (ap idsNamed (beside (idsNumbers (c .ids)) (c .state)) ∙ ids-back (c .ids)) (state-back (idsNumbers (c .ids)) (c .state)) refl)
 
-divergence-back : (d : Divergence) → divergenceOf (divergenceNumber d) ≡ DivergenceOption.Some d
+divergence-back : (d : Divergence) → divergenceNamed (divergenceNumber d) ≡ DivergenceOption.Some d
 divergence-back Divergence.Sequence = refl
 divergence-back Divergence.Kind = refl
 divergence-back Divergence.Digest = refl
@@ -86,7 +86,7 @@ divergence-back Divergence.Deadline = refl
 divergence-back Divergence.Boundary = refl
 
 phase-back : (c : CursorNumbers) (phase : Phase) →
-    phaseOf (machineNumbersFor c phase .phase) (machineNumbersFor c phase .divergence) ≡ PhaseOption.Some phase
+    phaseNamed (machineNumbersFor c phase .phase) (machineNumbersFor c phase .divergence) ≡ PhaseOption.Some phase
 phase-back c Phase.Settled = refl
 phase-back c Phase.AwaitingOutcome = refl
 phase-back c Phase.AwaitingFiring = refl
@@ -98,8 +98,8 @@ under c Phase.AwaitingOutcome = refl
 under c Phase.AwaitingFiring = refl
 under c (Phase.Diverged d) = refl
 
-pub machine-back : (m : ReplayMachine) → machineOf (machineNumbers m) ≡ MachineOption.Some m
+pub machine-back : (m : ReplayMachine) → machineNamed (machineNumbers m) ≡ MachineOption.Some m
 machine-back m =
     sym
-    (by-arms machineWith (ap cursorOf (under (cursorNumbers (m .cursor)) (m .phase)) ∙ cursor-back (m .cursor))
+    (by-arms machineWith (ap cursorNamed (under (cursorNumbers (m .cursor)) (m .phase)) ∙ cursor-back (m .cursor))
     (phase-back (cursorNumbers (m .cursor)) (m .phase)) refl)

@@ -45,8 +45,8 @@ use Rattle.core_exports.specs.declared.given.TimerRequestOption.{TimerRe
 use Rattle.core_exports.specs.declared.given.TimerRequestOption.the-variants as TimerRequestOption
 
 -- a number that is offered or was committed, by its flag: 0 none, 1 the number
-abbrev pub offerOf : ℕ → ℕ → OfferOption
-offerOf flag n =
+abbrev pub offerNamed : ℕ → ℕ → OfferOption
+offerNamed flag n =
     cond (eqb flag 0) (OfferOption.Some SeqOption.None)
     (cond (eqb flag 1) (OfferOption.Some (SeqOption.Some (record { 0 = n }))) OfferOption.None)
 
@@ -54,20 +54,20 @@ abbrev pub idsWith : ℕ → OfferOption → IdsOption
 idsWith run (OfferOption.Some next) = IdsOption.Some (record { run = record { 0 = run }; next = next })
 idsWith run OfferOption.None = IdsOption.None
 
-abbrev pub idsOf : IdsNumbers → IdsOption
-idsOf n = idsWith (n .run) (offerOf (n .offers) (n .next))
+abbrev pub idsNamed : IdsNumbers → IdsOption
+idsNamed n = idsWith (n .run) (offerNamed (n .offers) (n .next))
 
 -- clock 1 or 2; "others have no spec"
-abbrev pub specOf : SpecNumbers → TimerSpecOption
-specOf n = recordedSpec (record { 0 = n .clock }) (n .deadline)
+abbrev pub specNamed : SpecNumbers → TimerSpecOption
+specNamed n = recordedSpec (record { 0 = n .clock }) (n .deadline)
 
 -- a record by the fields of a journal entry, its body m bytes from start; a field that its kind does not hold is not read
-abbrev pub recordOf : RecordNumbers → RecordRefOption
-recordOf n = recordBy (n .kind) (n .clock) (n .a) (n .s) (n .d) (n .m) (record { start = n .start; len = n .m })
+abbrev pub recordNamed : RecordNumbers → RecordRefOption
+recordNamed n = recordBy (n .kind) (n .clock) (n .a) (n .s) (n .d) (n .m) (record { start = n .start; len = n .m })
 
 -- the refusal with the number n
-abbrev pub errorOf : ℕ → ErrorOption
-errorOf n =
+abbrev pub errorNamed : ℕ → ErrorOption
+errorNamed n =
     cond (eqb n 21) (ErrorOption.Some KernelError.IdExhausted)
     (cond (eqb n 22) (ErrorOption.Some KernelError.NondeterministicWorkflow)
     (cond (eqb n 23) (ErrorOption.Some KernelError.IncompatibleWorkflow)
@@ -104,22 +104,22 @@ stateAt position n =
     })))
     (cond (eqb position 4) (StateOption.Some State.RunCompleted)
     (cond (eqb position 5) (StateOption.Some State.RunFailed)
-    (cond (eqb position 6) (haltedBy (errorOf (n .«error»))) StateOption.None))))))
+    (cond (eqb position 6) (haltedBy (errorNamed (n .«error»))) StateOption.None))))))
 
-abbrev pub stateOf : CursorNumbers → StateOption
-stateOf n = stateAt (n .position) n
+abbrev pub stateNamed : CursorNumbers → StateOption
+stateNamed n = stateAt (n .position) n
 
 abbrev pub cursorWith : IdsOption → StateOption → CursorOption
 cursorWith (IdsOption.Some ids) (StateOption.Some state) = CursorOption.Some (record { ids = ids; state = state })
 cursorWith (IdsOption.Some ids) StateOption.None = CursorOption.None
 cursorWith IdsOption.None state = CursorOption.None
 
-abbrev pub cursorOf : CursorNumbers → CursorOption
-cursorOf n = cursorWith (idsOf (n .ids)) (stateOf n)
+abbrev pub cursorNamed : CursorNumbers → CursorOption
+cursorNamed n = cursorWith (idsNamed (n .ids)) (stateNamed n)
 
 -- the divergence with the number n
-abbrev pub divergenceOf : ℕ → DivergenceOption
-divergenceOf n =
+abbrev pub divergenceNamed : ℕ → DivergenceOption
+divergenceNamed n =
     cond (eqb n 1) (DivergenceOption.Some Divergence.Sequence)
     (cond (eqb n 2) (DivergenceOption.Some Divergence.Kind)
     (cond (eqb n 3) (DivergenceOption.Some Divergence.Digest)
@@ -133,29 +133,29 @@ divergedBy (DivergenceOption.Some d) = PhaseOption.Some (Phase.Diverged d)
 divergedBy DivergenceOption.None = PhaseOption.None
 
 -- the phase by its place among the phases; the divergence is read where it has diverged
-abbrev pub phaseOf : ℕ → ℕ → PhaseOption
-phaseOf phase divergence =
+abbrev pub phaseNamed : ℕ → ℕ → PhaseOption
+phaseNamed phase divergence =
     cond (eqb phase 0) (PhaseOption.Some Phase.Settled)
     (cond (eqb phase 1) (PhaseOption.Some Phase.AwaitingOutcome)
     (cond (eqb phase 2) (PhaseOption.Some Phase.AwaitingFiring)
-    (cond (eqb phase 3) (divergedBy (divergenceOf divergence)) PhaseOption.None)))
+    (cond (eqb phase 3) (divergedBy (divergenceNamed divergence)) PhaseOption.None)))
 
 abbrev pub machineWith : CursorOption → PhaseOption → MachineOption
 machineWith (CursorOption.Some cursor) (PhaseOption.Some phase) = MachineOption.Some (record { cursor = cursor; phase = phase })
 machineWith (CursorOption.Some cursor) PhaseOption.None = MachineOption.None
 machineWith CursorOption.None phase = MachineOption.None
 
-abbrev pub machineOf : MachineNumbers → MachineOption
-machineOf n = machineWith (cursorOf (n .cursor)) (phaseOf (n .phase) (n .divergence))
+abbrev pub machineNamed : MachineNumbers → MachineOption
+machineNamed n = machineWith (cursorNamed (n .cursor)) (phaseNamed (n .phase) (n .divergence))
 
 abbrev pub nextBy : RecordRefOption → NextOption
 nextBy (RecordRefOption.Some x) = NextOption.Some (Next.Record x)
 nextBy RecordRefOption.None = NextOption.None
 
 -- `ended` 0: the record; 1: the end of history, and the record is not read
-abbrev pub nextOf : ℕ → RecordNumbers → NextOption
-nextOf ended x =
-    cond (eqb ended 0) (nextBy (recordOf x)) (cond (eqb ended 1) (NextOption.Some Next.EndOfHistory) NextOption.None)
+abbrev pub nextNamed : ℕ → RecordNumbers → NextOption
+nextNamed ended x =
+    cond (eqb ended 0) (nextBy (recordNamed x)) (cond (eqb ended 1) (NextOption.Some Next.EndOfHistory) NextOption.None)
 
 -- a machine with what it is asked about
 abbrev pub turnWith : MachineOption → NextOption → TurnOption
@@ -163,8 +163,8 @@ turnWith (MachineOption.Some m) (NextOption.Some next) = TurnOption.Some m next
 turnWith (MachineOption.Some m) NextOption.None = TurnOption.None
 turnWith MachineOption.None next = TurnOption.None
 
-abbrev pub turnOf : MachineNumbers → ℕ → RecordNumbers → TurnOption
-turnOf n ended x = turnWith (machineOf n) (nextOf ended x)
+abbrev pub turnNamed : MachineNumbers → ℕ → RecordNumbers → TurnOption
+turnNamed n ended x = turnWith (machineNamed n) (nextNamed ended x)
 
 abbrev pub requestWith : TimerSpecOption → ClockCapabilityOption → TimerRequestOption
 requestWith (TimerSpecOption.Some spec) (ClockCapabilityOption.Some board) =
@@ -172,5 +172,5 @@ requestWith (TimerSpecOption.Some spec) (ClockCapabilityOption.Some board) =
 requestWith (TimerSpecOption.Some spec) ClockCapabilityOption.None = TimerRequestOption.None
 requestWith TimerSpecOption.None board = TimerRequestOption.None
 
-abbrev pub timerRequestOf : SpecNumbers → ℕ → TimerRequestOption
-timerRequestOf spec capability = requestWith (specOf spec) (capabilityOf capability)
+abbrev pub timerRequestNamed : SpecNumbers → ℕ → TimerRequestOption
+timerRequestNamed spec capability = requestWith (specNamed spec) (capabilityOf capability)

@@ -11,7 +11,7 @@ use Rattle.machine.specs.declared.Phase.{Phase}
 use Rattle.machine.specs.declared.Phase.the-variants as Phase
 use Rattle.machine.specs.declared.ReplayMachine.{ReplayMachine}
 use Rattle.machine.specs.Divergences.{divergenceNumber}
-use Rattle.machine.specs.Phases.{advanceRule}
+use Rattle.machine.specs.Phases.{machineAdvanceRule}
 use Rattle.core_exports.specs.declared.CursorNumbers.{CursorNumbers}
 use Rattle.core_exports.specs.declared.machines.RequestNumbers.{RequestNumbers}
 use Rattle.core_exports.specs.declared.machines.PendingNumbers.{PendingNumbers}
@@ -58,11 +58,11 @@ ofMachine says MachineOption.None = unnamed
 abbrev pub machineKept : MachineNumbers → MachineAnswered
 machineKept given = record { machine = given; answer = unnamed }
 
-abbrev pub advancedBy : MachineNumbers → MachineOption → RecordRefOption → MachineAnswered
-advancedBy given (MachineOption.Some m) (RecordRefOption.Some x) =
-    answered (advanceRule m x .machine) (stepResultTold (advanceRule m x .answer))
-advancedBy given (MachineOption.Some m) RecordRefOption.None = machineKept given
-advancedBy given MachineOption.None x = machineKept given
+abbrev pub machineAdvancedBy : MachineNumbers → MachineOption → RecordRefOption → MachineAnswered
+machineAdvancedBy given (MachineOption.Some m) (RecordRefOption.Some x) =
+    answered (machineAdvanceRule m x .machine) (stepResultTold (machineAdvanceRule m x .answer))
+machineAdvancedBy given (MachineOption.Some m) RecordRefOption.None = machineKept given
+machineAdvancedBy given MachineOption.None x = machineKept given
 
 -- a call with the record or the end of history
 abbrev pub calledBy : MachineNumbers → (ReplayMachine → Next → MachineAnswered) → TurnOption → MachineAnswered

@@ -146,7 +146,7 @@ cursorNumbers c = cursorNumbersFor (idsNumbers (c .ids)) (c .state)
 abbrev pub advancedNumbers : Advanced → AdvancedNumbers
 advancedNumbers a = record { cursor = cursorNumbers (a .cursor); answer = stepResultTold (a .answer) }
 
-abbrev pub advancedBy : CursorNumbers → CursorOption → RecordRefOption → AdvancedNumbers
-advancedBy given (CursorOption.Some c) (RecordRefOption.Some x) = advancedNumbers (advanceRule c x)
-advancedBy given (CursorOption.Some c) RecordRefOption.None = cursorKept given
-advancedBy given CursorOption.None x = cursorKept given
+abbrev pub cursorAdvancedBy : CursorNumbers → CursorOption → RecordRefOption → AdvancedNumbers
+cursorAdvancedBy given (CursorOption.Some c) (RecordRefOption.Some x) = advancedNumbers (advanceRule c x)
+cursorAdvancedBy given (CursorOption.Some c) RecordRefOption.None = cursorKept given
+cursorAdvancedBy given CursorOption.None x = cursorKept given

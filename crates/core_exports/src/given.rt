@@ -1,20 +1,6 @@
 // What the numbers that a caller gives name: a value, or nothing.
 ghost use mathlib.Core.Path.{_≡_};
-ghost use Rattle.core_exports.specs.Given.{
-  offerOf,
-  idsOf,
-  specOf,
-  errorOf,
-  recordOf,
-  stateOf,
-  cursorOf,
-  nextOf,
-  divergenceOf,
-  phaseOf,
-  machineOf,
-  turnOf,
-  timerRequestOf,
-};
+ghost use Rattle.core_exports.specs.Given.{offerNamed, idsNamed, specNamed, errorNamed, recordNamed, stateNamed, cursorNamed, nextNamed, divergenceNamed, phaseNamed, machineNamed, turnNamed, timerRequestNamed};
 use crate::CursorNumbers;
 use crate::IdsNumbers;
 use crate::RecordNumbers;
@@ -98,7 +84,7 @@ pub enum TimerRequestOption {
 }
 
 pub(crate) fn offer_of(flag: u8, n: u32) -> OfferOption
-    ensures { λ r. ⌜ r ≡ offerOf flag n ⌝ }
+    ensures { λ r. ⌜ r ≡ offerNamed flag n ⌝ }
 {
     match flag {
         0 => OfferOption::Some(SeqOption::None),
@@ -108,7 +94,7 @@ pub(crate) fn offer_of(flag: u8, n: u32) -> OfferOption
 }
 
 pub(crate) fn ids_of(ids: IdsNumbers) -> IdsOption
-    ensures { λ r. ⌜ r ≡ idsOf ids ⌝ }
+    ensures { λ r. ⌜ r ≡ idsNamed ids ⌝ }
 {
     match offer_of(ids.offers, ids.next) {
         OfferOption::Some(next) => IdsOption::Some(EffectIdAllocator {
@@ -120,13 +106,13 @@ pub(crate) fn ids_of(ids: IdsNumbers) -> IdsOption
 }
 
 pub(crate) fn spec_of(spec: SpecNumbers) -> TimerSpecOption
-    ensures { λ r. ⌜ r ≡ specOf spec ⌝ }
+    ensures { λ r. ⌜ r ≡ specNamed spec ⌝ }
 {
     TimerSpec::recorded(ClockKind(spec.clock), spec.deadline)
 }
 
 pub(crate) fn record_of(n: RecordNumbers) -> RecordRefOption
-    ensures { λ r. ⌜ r ≡ recordOf n ⌝ }
+    ensures { λ r. ⌜ r ≡ recordNamed n ⌝ }
 {
     let body = Body {
         start: n.start as usize,
@@ -136,7 +122,7 @@ pub(crate) fn record_of(n: RecordNumbers) -> RecordRefOption
 }
 
 fn error_of(n: u8) -> ErrorOption
-    ensures { λ r. ⌜ r ≡ errorOf n ⌝ }
+    ensures { λ r. ⌜ r ≡ errorNamed n ⌝ }
 {
     match n {
         21 => ErrorOption::Some(KernelError::IdExhausted),
@@ -150,7 +136,7 @@ fn error_of(n: u8) -> ErrorOption
 }
 
 fn state_of(n: CursorNumbers) -> StateOption
-    ensures { λ r. ⌜ r ≡ stateOf n ⌝ }
+    ensures { λ r. ⌜ r ≡ stateNamed n ⌝ }
 {
     let position = n.position;
     match position {
@@ -179,7 +165,7 @@ fn state_of(n: CursorNumbers) -> StateOption
 }
 
 pub(crate) fn cursor_of(n: CursorNumbers) -> CursorOption
-    ensures { λ r. ⌜ r ≡ cursorOf n ⌝ }
+    ensures { λ r. ⌜ r ≡ cursorNamed n ⌝ }
 {
     match ids_of(n.ids) {
         IdsOption::Some(ids) => match state_of(n) {
@@ -191,7 +177,7 @@ pub(crate) fn cursor_of(n: CursorNumbers) -> CursorOption
 }
 
 fn divergence_of(n: u8) -> DivergenceOption
-    ensures { λ r. ⌜ r ≡ divergenceOf n ⌝ }
+    ensures { λ r. ⌜ r ≡ divergenceNamed n ⌝ }
 {
     match n {
         1 => DivergenceOption::Some(Divergence::Sequence),
@@ -206,7 +192,7 @@ fn divergence_of(n: u8) -> DivergenceOption
 }
 
 fn phase_of(phase: u8, divergence: u8) -> PhaseOption
-    ensures { λ r. ⌜ r ≡ phaseOf phase divergence ⌝ }
+    ensures { λ r. ⌜ r ≡ phaseNamed phase divergence ⌝ }
 {
     match phase {
         0 => PhaseOption::Some(Phase::Settled),
@@ -221,7 +207,7 @@ fn phase_of(phase: u8, divergence: u8) -> PhaseOption
 }
 
 pub(crate) fn machine_of(n: MachineNumbers) -> MachineOption
-    ensures { λ r. ⌜ r ≡ machineOf n ⌝ }
+    ensures { λ r. ⌜ r ≡ machineNamed n ⌝ }
 {
     match cursor_of(n.cursor) {
         CursorOption::Some(cursor) => match phase_of(n.phase, n.divergence) {
@@ -233,7 +219,7 @@ pub(crate) fn machine_of(n: MachineNumbers) -> MachineOption
 }
 
 fn next_of(ended: u8, record: RecordNumbers) -> NextOption
-    ensures { λ r. ⌜ r ≡ nextOf ended «record» ⌝ }
+    ensures { λ r. ⌜ r ≡ nextNamed ended «record» ⌝ }
 {
     match ended {
         0 => match record_of(record) {
@@ -246,7 +232,7 @@ fn next_of(ended: u8, record: RecordNumbers) -> NextOption
 }
 
 pub(crate) fn turn_of(machine: MachineNumbers, ended: u8, record: RecordNumbers) -> TurnOption
-    ensures { λ r. ⌜ r ≡ turnOf machine ended «record» ⌝ }
+    ensures { λ r. ⌜ r ≡ turnNamed machine ended «record» ⌝ }
 {
     match machine_of(machine) {
         MachineOption::Some(m) => match next_of(ended, record) {
@@ -258,7 +244,7 @@ pub(crate) fn turn_of(machine: MachineNumbers, ended: u8, record: RecordNumbers)
 }
 
 pub(crate) fn timer_request_of(spec: SpecNumbers, capability: u8) -> TimerRequestOption
-    ensures { λ r. ⌜ r ≡ timerRequestOf spec capability ⌝ }
+    ensures { λ r. ⌜ r ≡ timerRequestNamed spec capability ⌝ }
 {
     match spec_of(spec) {
         TimerSpecOption::Some(named) => match ClockCapability::of(capability as u64) {

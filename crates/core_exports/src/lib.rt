@@ -14,28 +14,10 @@ ghost use Rattle.clocks.specs.Timers.{admission, armed, evaluation};
 ghost use Rattle.clocks.specs.Told.{timerSpecOptionTold, admitsResultTold, timerResultTold, deadlineResultTold};
 ghost use Rattle.records.specs.Records.{kindNumber};
 ghost use Rattle.cursor.specs.declared.State.the-variants as State;
-ghost use Rattle.cursor.specs.Readers.{fresh, runOf, positionOf, terminalAt, pendingOf, pendingTimerOf, nextSeqOf, nextEffectIdOf};
+ghost use Rattle.cursor.specs.Readers.{freshCursor, runOf, positionOf, terminalAt, pendingOf, pendingTimerOf, nextSeqOf, nextEffectIdOf};
 ghost use Rattle.answer_numbers.specs.CursorTold.{positionTold, pendingEffectOptionTold, pendingTimerOptionTold};
-ghost use Rattle.core_exports.specs.Given.{offerOf, idsOf, specOf, recordOf, cursorOf};
-ghost use Rattle.core_exports.specs.Numbers.{
-  unnamed,
-  ofIds,
-  ofSpec,
-  ofBoard,
-  ofRecord,
-  ofCursor,
-  idsKept,
-  cursorKept,
-  idsNumbers,
-  allocatedNumbers,
-  allocatedBy,
-  resumedBy,
-  bare,
-  cursorNumbersFor,
-  cursorNumbers,
-  advancedNumbers,
-  advancedBy,
-};
+ghost use Rattle.core_exports.specs.Given.{offerNamed, idsNamed, specNamed, recordNamed, cursorNamed};
+ghost use Rattle.core_exports.specs.Numbers.{unnamed, ofIds, ofSpec, ofBoard, ofRecord, ofCursor, idsKept, cursorKept, idsNumbers, allocatedNumbers, allocatedBy, resumedBy, bare, cursorNumbersFor, cursorNumbers, advancedNumbers, cursorAdvancedBy};
 use clocks::ClockCapability;
 use clocks::ClockCapabilityOption;
 use clocks::Timer;
@@ -136,7 +118,7 @@ pub extern "C" fn hiskurdo_seq_successor(seq: u32) -> Told
 
 #[no_mangle]
 pub extern "C" fn hiskurdo_ids_for_run(run: u64) -> IdsNumbers
-    ensures { λ r. ⌜ r ≡ idsNumbers (Allocator.fresh (record { 0 = run })) ⌝ }
+    ensures { λ r. ⌜ r ≡ idsNumbers (Allocator.freshIds (record { 0 = run })) ⌝ }
 {
     ids_numbers(EffectIdAllocator::for_run(RunId(run)))
 }
@@ -144,7 +126,7 @@ pub extern "C" fn hiskurdo_ids_for_run(run: u64) -> IdsNumbers
 // `committed` 0: nothing was committed; 1: `last` was.
 #[no_mangle]
 pub extern "C" fn hiskurdo_ids_resume(run: u64, committed: u8, last: u32) -> AllocatedNumbers
-    ensures { λ r. ⌜ r ≡ resumedBy (record { run = run; next = last; offers = committed }) (offerOf committed last) ⌝ }
+    ensures { λ r. ⌜ r ≡ resumedBy (record { run = run; next = last; offers = committed }) (offerNamed committed last) ⌝ }
 {
     match given::offer_of(committed, last) {
         OfferOption::Some(ended) => AllocatedNumbers {
@@ -161,7 +143,7 @@ pub extern "C" fn hiskurdo_ids_resume(run: u64, committed: u8, last: u32) -> All
 
 #[no_mangle]
 pub extern "C" fn hiskurdo_ids_run(ids: IdsNumbers) -> Told
-    ensures { λ r. ⌜ r ≡ ofIds (λ a. told1 0 (a .run .0)) (idsOf ids) ⌝ }
+    ensures { λ r. ⌜ r ≡ ofIds (λ a. told1 0 (a .run .0)) (idsNamed ids) ⌝ }
 {
     match given::ids_of(ids) {
         IdsOption::Some(a) => value(a.run().0),
@@ -171,7 +153,7 @@ pub extern "C" fn hiskurdo_ids_run(ids: IdsNumbers) -> Told
 
 #[no_mangle]
 pub extern "C" fn hiskurdo_ids_peek(ids: IdsNumbers) -> Told
-    ensures { λ r. ⌜ r ≡ ofIds (λ a. seqOptionTold (a .next)) (idsOf ids) ⌝ }
+    ensures { λ r. ⌜ r ≡ ofIds (λ a. seqOptionTold (a .next)) (idsNamed ids) ⌝ }
 {
     match given::ids_of(ids) {
         IdsOption::Some(a) => a.peek().told(),
@@ -181,7 +163,7 @@ pub extern "C" fn hiskurdo_ids_peek(ids: IdsNumbers) -> Told
 
 #[no_mangle]
 pub extern "C" fn hiskurdo_ids_allocate(ids: IdsNumbers) -> AllocatedNumbers
-    ensures { λ r. ⌜ r ≡ allocatedBy ids (idsOf ids) ⌝ }
+    ensures { λ r. ⌜ r ≡ allocatedBy ids (idsNamed ids) ⌝ }
 {
     match given::ids_of(ids) {
         IdsOption::Some(a) => allocated_numbers(a.allocate()),
@@ -193,7 +175,7 @@ pub extern "C" fn hiskurdo_ids_allocate(ids: IdsNumbers) -> AllocatedNumbers
 
 #[no_mangle]
 pub extern "C" fn hiskurdo_spec_clock_kind(spec: SpecNumbers) -> Told
-    ensures { λ r. ⌜ r ≡ ofSpec (λ s. told1 0 (specClock s .0)) (specOf spec) ⌝ }
+    ensures { λ r. ⌜ r ≡ ofSpec (λ s. told1 0 (specClock s .0)) (specNamed spec) ⌝ }
 {
     match given::spec_of(spec) {
         TimerSpecOption::Some(s) => value(s.clock_kind().0 as u64),
@@ -203,7 +185,7 @@ pub extern "C" fn hiskurdo_spec_clock_kind(spec: SpecNumbers) -> Told
 
 #[no_mangle]
 pub extern "C" fn hiskurdo_spec_deadline(spec: SpecNumbers) -> Told
-    ensures { λ r. ⌜ r ≡ ofSpec (λ s. told1 0 (specDeadline s)) (specOf spec) ⌝ }
+    ensures { λ r. ⌜ r ≡ ofSpec (λ s. told1 0 (specDeadline s)) (specNamed spec) ⌝ }
 {
     match given::spec_of(spec) {
         TimerSpecOption::Some(s) => value(s.deadline()),
@@ -213,7 +195,7 @@ pub extern "C" fn hiskurdo_spec_deadline(spec: SpecNumbers) -> Told
 
 #[no_mangle]
 pub extern "C" fn hiskurdo_spec_rearmed_at(spec: SpecNumbers, recorded: u64, now: u64) -> Told
-    ensures { λ r. ⌜ r ≡ ofSpec (λ s. told1 0 (rearmedAt s recorded now)) (specOf spec) ⌝ }
+    ensures { λ r. ⌜ r ≡ ofSpec (λ s. told1 0 (rearmedAt s recorded now)) (specNamed spec) ⌝ }
 {
     match given::spec_of(spec) {
         TimerSpecOption::Some(s) => value(s.rearmed_at(recorded, now)),
@@ -231,7 +213,7 @@ pub extern "C" fn hiskurdo_spec_recorded(clock: u8, deadline: u64) -> Told
 
 #[no_mangle]
 pub extern "C" fn hiskurdo_admits(capability: u8, spec: SpecNumbers) -> Told
-    ensures { λ r. ⌜ r ≡ ofBoard (λ b. ofSpec (λ s. admitsResultTold (admission b s)) (specOf spec)) (capabilityOf capability) ⌝ }
+    ensures { λ r. ⌜ r ≡ ofBoard (λ b. ofSpec (λ s. admitsResultTold (admission b s)) (specNamed spec)) (capabilityOf capability) ⌝ }
 {
     match ClockCapability::of(capability as u64) {
         ClockCapabilityOption::Some(board) => match given::spec_of(spec) {
@@ -244,7 +226,7 @@ pub extern "C" fn hiskurdo_admits(capability: u8, spec: SpecNumbers) -> Told
 
 #[no_mangle]
 pub extern "C" fn hiskurdo_timer_arm(spec: SpecNumbers, capability: u8, now: u64) -> Told
-    ensures { λ r. ⌜ r ≡ ofBoard (λ b. ofSpec (λ s. timerResultTold (armed s b now)) (specOf spec)) (capabilityOf capability) ⌝ }
+    ensures { λ r. ⌜ r ≡ ofBoard (λ b. ofSpec (λ s. timerResultTold (armed s b now)) (specNamed spec)) (capabilityOf capability) ⌝ }
 {
     match ClockCapability::of(capability as u64) {
         ClockCapabilityOption::Some(board) => match given::spec_of(spec) {
@@ -258,7 +240,7 @@ pub extern "C" fn hiskurdo_timer_arm(spec: SpecNumbers, capability: u8, now: u64
 #[no_mangle]
 pub extern "C" fn hiskurdo_timer_evaluate(spec: SpecNumbers, armed_at: u64, reading: u64) -> Told
     ensures { λ r. ⌜ r ≡
-        ofSpec (λ s. deadlineResultTold (evaluation (record { spec = s; «armed_at» = «armed_at» }) reading)) (specOf spec) ⌝ }
+        ofSpec (λ s. deadlineResultTold (evaluation (record { spec = s; «armed_at» = «armed_at» }) reading)) (specNamed spec) ⌝ }
 {
     match given::spec_of(spec) {
         TimerSpecOption::Some(s) => {
@@ -273,7 +255,7 @@ pub extern "C" fn hiskurdo_timer_evaluate(spec: SpecNumbers, armed_at: u64, read
 
 #[no_mangle]
 pub extern "C" fn hiskurdo_record_kind(record: RecordNumbers) -> Told
-    ensures { λ r. ⌜ r ≡ ofRecord (λ x. told1 0 (kindNumber x)) (recordOf «record») ⌝ }
+    ensures { λ r. ⌜ r ≡ ofRecord (λ x. told1 0 (kindNumber x)) (recordNamed «record») ⌝ }
 {
     match given::record_of(record) {
         RecordRefOption::Some(x) => value(x.kind().0 as u64),
@@ -283,14 +265,14 @@ pub extern "C" fn hiskurdo_record_kind(record: RecordNumbers) -> Told
 
 #[no_mangle]
 pub extern "C" fn hiskurdo_cursor_new(run: u64) -> CursorNumbers
-    ensures { λ r. ⌜ r ≡ cursorNumbers (fresh (record { 0 = run })) ⌝ }
+    ensures { λ r. ⌜ r ≡ cursorNumbers (freshCursor (record { 0 = run })) ⌝ }
 {
     cursor_numbers(ReplayCursor::new(RunId(run)))
 }
 
 #[no_mangle]
 pub extern "C" fn hiskurdo_cursor_run(cursor: CursorNumbers) -> Told
-    ensures { λ r. ⌜ r ≡ ofCursor (λ c. told1 0 (runOf c .0)) (cursorOf cursor) ⌝ }
+    ensures { λ r. ⌜ r ≡ ofCursor (λ c. told1 0 (runOf c .0)) (cursorNamed cursor) ⌝ }
 {
     match given::cursor_of(cursor) {
         CursorOption::Some(c) => value(c.run().0),
@@ -300,7 +282,7 @@ pub extern "C" fn hiskurdo_cursor_run(cursor: CursorNumbers) -> Told
 
 #[no_mangle]
 pub extern "C" fn hiskurdo_cursor_position(cursor: CursorNumbers) -> Told
-    ensures { λ r. ⌜ r ≡ ofCursor (λ c. positionTold (positionOf c)) (cursorOf cursor) ⌝ }
+    ensures { λ r. ⌜ r ≡ ofCursor (λ c. positionTold (positionOf c)) (cursorNamed cursor) ⌝ }
 {
     match given::cursor_of(cursor) {
         CursorOption::Some(c) => answer_numbers::position_told(c.position()),
@@ -310,7 +292,7 @@ pub extern "C" fn hiskurdo_cursor_position(cursor: CursorNumbers) -> Told
 
 #[no_mangle]
 pub extern "C" fn hiskurdo_cursor_is_terminal(cursor: CursorNumbers) -> Told
-    ensures { λ r. ⌜ r ≡ ofCursor (λ c. told1 0 (cond (terminalAt (positionOf c)) 1 0)) (cursorOf cursor) ⌝ }
+    ensures { λ r. ⌜ r ≡ ofCursor (λ c. told1 0 (cond (terminalAt (positionOf c)) 1 0)) (cursorNamed cursor) ⌝ }
 {
     match given::cursor_of(cursor) {
         CursorOption::Some(c) => value(flag(c.position().is_terminal())),
@@ -320,7 +302,7 @@ pub extern "C" fn hiskurdo_cursor_is_terminal(cursor: CursorNumbers) -> Told
 
 #[no_mangle]
 pub extern "C" fn hiskurdo_cursor_pending(cursor: CursorNumbers) -> Told
-    ensures { λ r. ⌜ r ≡ ofCursor (λ c. pendingEffectOptionTold (pendingOf c)) (cursorOf cursor) ⌝ }
+    ensures { λ r. ⌜ r ≡ ofCursor (λ c. pendingEffectOptionTold (pendingOf c)) (cursorNamed cursor) ⌝ }
 {
     match given::cursor_of(cursor) {
         CursorOption::Some(c) => answer_numbers::pending_effect_told(c.pending()),
@@ -330,7 +312,7 @@ pub extern "C" fn hiskurdo_cursor_pending(cursor: CursorNumbers) -> Told
 
 #[no_mangle]
 pub extern "C" fn hiskurdo_cursor_pending_timer(cursor: CursorNumbers) -> Told
-    ensures { λ r. ⌜ r ≡ ofCursor (λ c. pendingTimerOptionTold (pendingTimerOf c)) (cursorOf cursor) ⌝ }
+    ensures { λ r. ⌜ r ≡ ofCursor (λ c. pendingTimerOptionTold (pendingTimerOf c)) (cursorNamed cursor) ⌝ }
 {
     match given::cursor_of(cursor) {
         CursorOption::Some(c) => answer_numbers::pending_timer_told(c.pending_timer()),
@@ -340,7 +322,7 @@ pub extern "C" fn hiskurdo_cursor_pending_timer(cursor: CursorNumbers) -> Told
 
 #[no_mangle]
 pub extern "C" fn hiskurdo_cursor_next_seq(cursor: CursorNumbers) -> Told
-    ensures { λ r. ⌜ r ≡ ofCursor (λ c. seqOptionTold (nextSeqOf c)) (cursorOf cursor) ⌝ }
+    ensures { λ r. ⌜ r ≡ ofCursor (λ c. seqOptionTold (nextSeqOf c)) (cursorNamed cursor) ⌝ }
 {
     match given::cursor_of(cursor) {
         CursorOption::Some(c) => c.next_seq().told(),
@@ -350,7 +332,7 @@ pub extern "C" fn hiskurdo_cursor_next_seq(cursor: CursorNumbers) -> Told
 
 #[no_mangle]
 pub extern "C" fn hiskurdo_cursor_next_effect_id(cursor: CursorNumbers) -> Told
-    ensures { λ r. ⌜ r ≡ ofCursor (λ c. effectIdResultTold (nextEffectIdOf c)) (cursorOf cursor) ⌝ }
+    ensures { λ r. ⌜ r ≡ ofCursor (λ c. effectIdResultTold (nextEffectIdOf c)) (cursorNamed cursor) ⌝ }
 {
     match given::cursor_of(cursor) {
         CursorOption::Some(c) => c.next_effect_id().told(),
@@ -363,7 +345,7 @@ pub extern "C" fn hiskurdo_cursor_advance(
     cursor: CursorNumbers,
     record: RecordNumbers,
 ) -> AdvancedNumbers
-    ensures { λ r. ⌜ r ≡ advancedBy cursor (cursorOf cursor) (recordOf «record») ⌝ }
+    ensures { λ r. ⌜ r ≡ cursorAdvancedBy cursor (cursorNamed cursor) (recordNamed «record») ⌝ }
 {
     match given::cursor_of(cursor) {
         CursorOption::Some(c) => match given::record_of(record) {

@@ -13,19 +13,8 @@ ghost use Rattle.answer_numbers.specs.MachineTold.{
   timerResolveResultTold,
 };
 ghost use Rattle.errors.specs.Told.{told1};
-ghost use Rattle.core_exports.specs.Given.{recordOf, machineOf, turnOf, timerRequestOf};
-ghost use Rattle.core_exports.specs.MachineNumbers.{
-  requestOf,
-  pendingFrom,
-  machineNumbersFor,
-  machineNumbers,
-  answered,
-  ofMachine,
-  machineKept,
-  advancedBy,
-  calledBy,
-  requestedBy,
-};
+ghost use Rattle.core_exports.specs.Given.{recordNamed, machineNamed, turnNamed, timerRequestNamed};
+ghost use Rattle.core_exports.specs.MachineNumbers.{requestOf, pendingFrom, machineNumbersFor, machineNumbers, answered, ofMachine, machineKept, machineAdvancedBy, calledBy, requestedBy};
 use crate::CursorNumbers;
 use crate::RecordNumbers;
 use crate::SpecNumbers;
@@ -99,14 +88,14 @@ pub extern "C" fn hiskurdo_divergence_from(
 
 #[no_mangle]
 pub extern "C" fn hiskurdo_machine_new(run: u64) -> MachineNumbers
-    ensures { λ r. ⌜ r ≡ machineNumbers (Phases.fresh (record { 0 = run })) ⌝ }
+    ensures { λ r. ⌜ r ≡ machineNumbers (Phases.freshMachine (record { 0 = run })) ⌝ }
 {
     machine_numbers(ReplayMachine::new(RunId(run)))
 }
 
 #[no_mangle]
 pub extern "C" fn hiskurdo_machine_run(machine: MachineNumbers) -> Told
-    ensures { λ r. ⌜ r ≡ ofMachine (λ m. told1 0 (runOf (m .cursor) .0)) (machineOf machine) ⌝ }
+    ensures { λ r. ⌜ r ≡ ofMachine (λ m. told1 0 (runOf (m .cursor) .0)) (machineNamed machine) ⌝ }
 {
     match given::machine_of(machine) {
         MachineOption::Some(m) => crate::value(m.run().0),
@@ -116,7 +105,7 @@ pub extern "C" fn hiskurdo_machine_run(machine: MachineNumbers) -> Told
 
 #[no_mangle]
 pub extern "C" fn hiskurdo_machine_position(machine: MachineNumbers) -> Told
-    ensures { λ r. ⌜ r ≡ ofMachine (λ m. positionTold (positionOf (m .cursor))) (machineOf machine) ⌝ }
+    ensures { λ r. ⌜ r ≡ ofMachine (λ m. positionTold (positionOf (m .cursor))) (machineNamed machine) ⌝ }
 {
     match given::machine_of(machine) {
         MachineOption::Some(m) => answer_numbers::position_told(m.position()),
@@ -127,7 +116,7 @@ pub extern "C" fn hiskurdo_machine_position(machine: MachineNumbers) -> Told
 #[no_mangle]
 pub extern "C" fn hiskurdo_machine_pending(machine: MachineNumbers) -> Told
     ensures { λ r. ⌜ r ≡
-        ofMachine (λ m. pendingEffectOptionTold (pendingOf (m .cursor))) (machineOf machine) ⌝ }
+        ofMachine (λ m. pendingEffectOptionTold (pendingOf (m .cursor))) (machineNamed machine) ⌝ }
 {
     match given::machine_of(machine) {
         MachineOption::Some(m) => answer_numbers::pending_effect_told(m.pending()),
@@ -138,7 +127,7 @@ pub extern "C" fn hiskurdo_machine_pending(machine: MachineNumbers) -> Told
 #[no_mangle]
 pub extern "C" fn hiskurdo_machine_pending_timer(machine: MachineNumbers) -> Told
     ensures { λ r. ⌜ r ≡
-        ofMachine (λ m. pendingTimerOptionTold (pendingTimerOf (m .cursor))) (machineOf machine) ⌝ }
+        ofMachine (λ m. pendingTimerOptionTold (pendingTimerOf (m .cursor))) (machineNamed machine) ⌝ }
 {
     match given::machine_of(machine) {
         MachineOption::Some(m) => answer_numbers::pending_timer_told(m.pending_timer()),
@@ -148,7 +137,7 @@ pub extern "C" fn hiskurdo_machine_pending_timer(machine: MachineNumbers) -> Tol
 
 #[no_mangle]
 pub extern "C" fn hiskurdo_machine_diverged(machine: MachineNumbers) -> Told
-    ensures { λ r. ⌜ r ≡ ofMachine (λ m. told1 0 (divergenceOptionNumber (Phases.divergedIn (m .phase)))) (machineOf machine) ⌝ }
+    ensures { λ r. ⌜ r ≡ ofMachine (λ m. told1 0 (divergenceOptionNumber (Phases.divergedIn (m .phase)))) (machineNamed machine) ⌝ }
 {
     match given::machine_of(machine) {
         MachineOption::Some(m) => crate::value(m.diverged().number() as u64),
@@ -161,7 +150,7 @@ pub extern "C" fn hiskurdo_machine_advance(
     machine: MachineNumbers,
     record: RecordNumbers,
 ) -> MachineAnswered
-    ensures { λ r. ⌜ r ≡ advancedBy machine (machineOf machine) (recordOf «record») ⌝ }
+    ensures { λ r. ⌜ r ≡ machineAdvancedBy machine (machineNamed machine) (recordNamed «record») ⌝ }
 {
     match given::machine_of(machine) {
         MachineOption::Some(m) => match given::record_of(record) {
@@ -187,7 +176,7 @@ pub extern "C" fn hiskurdo_machine_intent(
         calledBy machine
         (λ m next.
         answered (intentRule m (requestOf request) next .machine) (intentResultTold (intentRule m (requestOf request) next .answer)))
-        (turnOf machine ended «record») ⌝ }
+        (turnNamed machine ended «record») ⌝ }
 {
     match given::turn_of(machine, ended, record) {
         TurnOption::Some { machine: m, next } => {
@@ -208,7 +197,7 @@ pub extern "C" fn hiskurdo_machine_outcome(
     ensures { λ r. ⌜ r ≡
         calledBy machine
         (λ m next. answered (outcomeRule m next .machine) (resolveResultTold (outcomeRule m next .answer)))
-        (turnOf machine ended «record») ⌝ }
+        (turnNamed machine ended «record») ⌝ }
 {
     match given::turn_of(machine, ended, record) {
         TurnOption::Some { machine: m, next } => {
@@ -234,8 +223,8 @@ pub extern "C" fn hiskurdo_machine_timer_intent(
         calledBy machine
         (λ m next.
         answered (timerIntentRule m request next .machine) (timerIntentResultTold (timerIntentRule m request next .answer)))
-        (turnOf machine ended «record»))
-        (timerRequestOf spec capability) ⌝ }
+        (turnNamed machine ended «record»))
+        (timerRequestNamed spec capability) ⌝ }
 {
     match given::timer_request_of(spec, capability) {
         TimerRequestOption::Some(request) => match given::turn_of(machine, ended, record) {
@@ -259,7 +248,7 @@ pub extern "C" fn hiskurdo_machine_timer_outcome(
     ensures { λ r. ⌜ r ≡
         calledBy machine
         (λ m next. answered (timerOutcomeRule m next .machine) (timerResolveResultTold (timerOutcomeRule m next .answer)))
-        (turnOf machine ended «record») ⌝ }
+        (turnNamed machine ended «record») ⌝ }
 {
     match given::turn_of(machine, ended, record) {
         TurnOption::Some { machine: m, next } => {

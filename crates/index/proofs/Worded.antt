@@ -20,7 +20,7 @@ use Rattle.histories.specs.declared.Answer.{Answer}
 use Rattle.histories.specs.declared.Answer.the-variants as Answer
 use Rattle.endings.specs.declared.Ending.{Ending}
 use Rattle.endings.specs.declared.Ending.the-variants as Ending
-use Rattle.histories.specs.Checklist.{numbers, divergences, divergencesOf}
+use Rattle.histories.specs.Checklist.{refusalNumbers, refusalDivergences, divergencesOf}
 use Rattle.histories.specs.Promise.{Promise, RefusedCount, Counted}
 use Rattle.histories.proofs.Numbers.{Each, each}
 use Rattle.lines.specs.Words.{Row, table, isOf, endingDetail, detailOf}
@@ -76,9 +76,9 @@ abbrev Replayed : ℕ → ℕ → ℕ → Type 0
 Replayed kind place n =
     (d : ℕ) → T (among (divergencesOf n) d) → T (hasRow table n (detailOf n place d kind))
 
-replayed : (kind place : ℕ) → Each (Replayed kind place) numbers
+replayed : (kind place : ℕ) → Each (Replayed kind place) refusalNumbers
 replayed kind place = (
-  each (λ (d : ℕ). T (hasRow table 22 d)) divergences (tt, (tt, (tt, (tt, (tt, tt))))),
+  each (λ (d : ℕ). T (hasRow table 22 d)) refusalDivergences (tt, (tt, (tt, (tt, (tt, tt))))),
   (
     each (λ (d : ℕ). T (hasRow table 23 d)) (0 ∷ []) (tt, tt),
     (
@@ -92,7 +92,7 @@ kept-worded : (capability : ClockCapability) (plan : List PlanStep) (records : L
     Counted capability plan records answer → Worded answer kind
 kept-worded capability plan list (Answer.Ok ending stop records calls) kind c = ending-worded ending kind
 kept-worded capability plan list (Answer.No number place divergence calls) kind c =
-    each (Replayed kind place) numbers (replayed kind place) number (c .listed) divergence (c .divergences)
+    each (Replayed kind place) refusalNumbers (replayed kind place) number (c .listed) divergence (c .divergences)
 
 module _ (j p : List ℕ) (kind : ℕ) where
   by-readings : (a : JournalRead) (b : PlanRead) → journalRule j ≡ a → planRule p ≡ b → KeptBy a b j p (verdictBy a b j p) → Worded (verdictBy a b j p) kind

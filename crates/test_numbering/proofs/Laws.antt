@@ -18,14 +18,14 @@ use Rattle.cursor.specs.Advance as Cursor
 use Rattle.cursor.proofs.State as the
 use Rattle.machine.specs.declared.ReplayMachine.{ReplayMachine}
 use Rattle.machine.specs.declared.MachineAdvanced.{MachineAdvanced}
-use Rattle.machine.specs.Phases.{fresh, advanceRule}
+use Rattle.machine.specs.Phases.{freshMachine, machineAdvanceRule}
 use Rattle.test_numbering.specs.declared.Counted.{Counted}
 use Rattle.test_numbering.specs.declared.Walked.{Walked}
 use Rattle.test_numbering.specs.Walk.{
   walkedRun,
   start,
   marker,
-  accepted,
+  markerAccepted,
   Marked,
   none,
   one-more,
@@ -35,49 +35,49 @@ use Rattle.test_numbering.specs.Walk.{
 }
 use Rattle.test_numbering.specs.Turns.{toLastRule, replayingWith, marksOf}
 
-begins : advanceRule (fresh walkedRun) start .machine ≡ afterMarkers 0
-unfolding advanceRule Cursor.advanceRule
+begins : machineAdvanceRule (freshMachine walkedRun) start .machine ≡ afterMarkers 0
+unfolding machineAdvanceRule Cursor.advanceRule
 begins = refl
 
 -- a fresh machine, called with the start
-pub begun : {m : ReplayMachine} {x : RecordRef} {a : MachineAdvanced} → m ≡ fresh walkedRun → x ≡ start → a ≡ advanceRule m x
+pub begun : {m : ReplayMachine} {x : RecordRef} {a : MachineAdvanced} → m ≡ freshMachine walkedRun → x ≡ start → a ≡ machineAdvanceRule m x
     → (a .machine ≡ afterMarkers 0) × (0 ≤ 4294967295 × Marked 0 (a .machine))
 begun {m} {x} {a} is by called =
-    let machine : a .machine ≡ advanceRule (fresh walkedRun) start .machine =
+    let machine : a .machine ≡ machineAdvanceRule (freshMachine walkedRun) start .machine =
     ap (λ (y : MachineAdvanced). y .machine)
-    (called ∙ (ap (λ (y : ReplayMachine). advanceRule y x) is ∙ ap (advanceRule (fresh walkedRun)) by)) in
+    (called ∙ (ap (λ (y : ReplayMachine). machineAdvanceRule y x) is ∙ ap (machineAdvanceRule (freshMachine walkedRun)) by)) in
     (machine ∙ begins, (omega arith, subst (Marked 0) (sym machine) none))
 
 -- a marker with the offered number is accepted, and the next number offered
 pub takes : (n : ℕ) → n < 4294967295
-    → advanceRule (afterMarkers n) (marker n) ≡ record { machine = afterMarkers (n + 1); answer = accepted n }
-unfolding advanceRule Cursor.advanceRule
+    → machineAdvanceRule (afterMarkers n) (marker n) ≡ record { machine = afterMarkers (n + 1); answer = markerAccepted n }
+unfolding machineAdvanceRule Cursor.advanceRule
 takes n below = rw (eq-eqb n n refl) (rw (lt-ltb n 4294967295 below))
 
 -- the last number is accepted like any other, and nothing is offered
-pub takes-last : advanceRule (afterMarkers 4294967295) (marker 4294967295)
-    ≡ record { machine = offering SeqOption.None; answer = accepted 4294967295 }
-unfolding advanceRule Cursor.advanceRule
+pub takes-last : machineAdvanceRule (afterMarkers 4294967295) (marker 4294967295)
+    ≡ record { machine = offering SeqOption.None; answer = markerAccepted 4294967295 }
+unfolding machineAdvanceRule Cursor.advanceRule
 takes-last = refl
 
 -- One call: the machine m offers n, and the record x is the marker n.
 module _ (n : ℕ) {m : ReplayMachine} {x : RecordRef} {a : MachineAdvanced} {next : ReplayMachine} (by : x ≡ marker n)
-    (called : a ≡ advanceRule m x) where
+    (called : a ≡ machineAdvanceRule m x) where
   pub answered : m ≡ afterMarkers n
-      → advanceRule (afterMarkers n) (marker n) ≡ record { machine = next; answer = accepted n }
-      → a ≡ record { machine = next; answer = accepted n }
+      → machineAdvanceRule (afterMarkers n) (marker n) ≡ record { machine = next; answer = markerAccepted n }
+      → a ≡ record { machine = next; answer = markerAccepted n }
   answered is rule =
-      called ∙ (ap (λ (y : ReplayMachine). advanceRule y x) is ∙ (ap (advanceRule (afterMarkers n)) by ∙ rule))
+      called ∙ (ap (λ (y : ReplayMachine). machineAdvanceRule y x) is ∙ (ap (machineAdvanceRule (afterMarkers n)) by ∙ rule))
 
   -- the machine that the call returned is one marker further
-  pub one-on : Marked n m → a ≡ record { machine = next; answer = accepted n } → Marked (n + 1) (a .machine)
+  pub one-on : Marked n m → a ≡ record { machine = next; answer = markerAccepted n } → Marked (n + 1) (a .machine)
   one-on before is =
       one-more n m (a .machine) before
-      (sym (ap (advanceRule m) by) ∙ (sym called ∙
+      (sym (ap (machineAdvanceRule m) by) ∙ (sym called ∙
       ap (λ (s : StepResult). record { machine = a .machine; answer = s }) (ap (λ (y : MachineAdvanced). y .answer) is)))
 
 -- the answer of an accepted marker is told to be its own
-pub marks-it : (n : ℕ) {a : MachineAdvanced} {next : ReplayMachine} → a ≡ record { machine = next; answer = accepted n }
+pub marks-it : (n : ℕ) {a : MachineAdvanced} {next : ReplayMachine} → a ≡ record { machine = next; answer = markerAccepted n }
     → marksOf n (a .answer) ≡ true
 marks-it n is = ap (λ (y : MachineAdvanced). marksOf n (y .answer)) is ∙ rw (eq-eqb n n refl)
 
@@ -87,7 +87,7 @@ never true e t = absurd (subst T e tt)
 never false e t = absurd (subst T (sym t) tt)
 
 -- an accepted marker leaves the machine replaying
-pub replays : (n : ℕ) {a : MachineAdvanced} {next : SeqOption} → a ≡ record { machine = offering next; answer = accepted n }
+pub replays : (n : ℕ) {a : MachineAdvanced} {next : SeqOption} → a ≡ record { machine = offering next; answer = markerAccepted n }
     → a .machine .cursor .state ≡ State.Replaying
 replays n is = ap (λ (y : MachineAdvanced). y .machine .cursor .state) is
 
@@ -103,7 +103,7 @@ same m e = ap (λ (y : State). record { cursor = record { ids = m .cursor .ids; 
 
 -- a turn of the loop
 pub turned : (n : ℕ) {next : ReplayMachine} (a : MachineAdvanced) → n < 4294967295
-    → next ≡ a .machine → a ≡ record { machine = afterMarkers (n + 1); answer = accepted n } → Marked (n + 1) (a .machine)
+    → next ≡ a .machine → a ≡ record { machine = afterMarkers (n + 1); answer = markerAccepted n } → Marked (n + 1) (a .machine)
     → (next ≡ afterMarkers (n + 1)) × (n + 1 ≤ 4294967295 × Marked (n + 1) next)
 turned n a below e is marked =
     (e ∙ ap (λ (y : MachineAdvanced). y .machine) is, (omega arith, subst (Marked (n + 1)) (sym e) marked))
@@ -120,7 +120,7 @@ at-last n {m} reached inv =
 
 -- one marker more than those to the last
 pub walked-is : {k : Counted} {a : MachineAdvanced} → k ≡ toLastRule
-    → a ≡ record { machine = offering SeqOption.None; answer = accepted 4294967295 }
+    → a ≡ record { machine = offering SeqOption.None; answer = markerAccepted 4294967295 }
     → _≡_ {A = Walked} (record { before = k .machine; machine = a .machine; markers = k .markers + 1 }) walkRule
 walked-is {k} {a} counted is =
     ap (λ (y : Counted). record { before = y .machine; machine = a .machine; markers = y .markers + 1 }) counted ∙

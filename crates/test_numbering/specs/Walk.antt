@@ -9,10 +9,10 @@ use Rattle.records.specs.declared.RecordRef.the-variants as RecordRef
 use Rattle.cursor.specs.declared.State.the-variants as State
 use Rattle.cursor.specs.declared.StepResult.{StepResult}
 use Rattle.cursor.specs.declared.StepResult.the-variants as StepResult
-use Rattle.cursor.specs.Advance.{stepOf}
+use Rattle.cursor.specs.Advance.{acceptedStep}
 use Rattle.machine.specs.declared.Phase.the-variants as Phase
 use Rattle.machine.specs.declared.ReplayMachine.{ReplayMachine}
-use Rattle.machine.specs.Phases.{fresh, advanceRule}
+use Rattle.machine.specs.Phases.{freshMachine, machineAdvanceRule}
 use Rattle.test_numbering.specs.declared.Walked.{Walked}
 
 abbrev pub walkedRun : RunId
@@ -25,14 +25,14 @@ abbrev pub marker : ℕ → RecordRef
 marker n = RecordRef.VersionMarker (record { 0 = n }) (record { 0 = 1 }) 1
 
 -- "Accepted, the answer is the record's fields, its number joined with the run number."
-abbrev pub accepted : ℕ → StepResult
-accepted n = StepResult.Ok (stepOf walkedRun (marker n))
+abbrev pub markerAccepted : ℕ → StepResult
+markerAccepted n = StepResult.Ok (acceptedStep walkedRun (marker n))
 
 -- Where a fresh machine stands after its start and the markers 0 to n - 1, each of them accepted under its own number.
 pub data Marked : ℕ → ReplayMachine → Type 0 where
-  none : Marked 0 (advanceRule (fresh walkedRun) start .machine)
+  none : Marked 0 (machineAdvanceRule (freshMachine walkedRun) start .machine)
   one-more : (n : ℕ) (m next : ReplayMachine) → Marked n m
-      → advanceRule m (marker n) ≡ record { machine = next; answer = accepted n } → Marked (n + 1) next
+      → machineAdvanceRule m (marker n) ≡ record { machine = next; answer = markerAccepted n } → Marked (n + 1) next
 
 -- a machine of that run which replays, is settled and offers this
 abbrev pub offering : SeqOption → ReplayMachine

@@ -9,7 +9,7 @@ use native.Mathlib.Omega.{arith}
 use borrow.Author.Tests.{lt-ltb, le-ltb}
 use lib.ListN.{length, take, drop, getD, drop-of-length-le, length-append, length-drop}
 use Rattle.test_text.specs.declared.Described.{Described}
-use Rattle.test_text.specs.Lines.{before, items, bytesOf, fileOf, lineAt, lineRule, over}
+use Rattle.test_text.specs.Lines.{before, items, itemsBytes, fileOf, lineAt, lineRule, over}
 use Rattle.test_text.specs.Steps.{put}
 use Rattle.test_text.proofs.Before.{before-take}
 use Rattle.test_text.proofs.Put.{put-first}
@@ -22,9 +22,9 @@ file-fits line room =
 
 -- what `read_file` leaves behind
 module _ (line room after : List ℕ) (len : ℕ) (e : len ≡ length (fileOf line (length room))) where
-  pub file-written : 0 < len → after ≡ put room 0 (bytesOf (items line)) → after ≡ over (fileOf line (length room)) room
+  pub file-written : 0 < len → after ≡ put room 0 (itemsBytes (items line)) → after ≡ over (fileOf line (length room)) room
   file-written h a =
-      a ∙ put-first room (bytesOf (items line)) ∙ ap (λ (bytes : List ℕ). over bytes room) (sym (file-there line (length room) (omega arith) .3))
+      a ∙ put-first room (itemsBytes (items line)) ∙ ap (λ (bytes : List ℕ). over bytes room) (sym (file-there line (length room) (omega arith) .3))
 
   no-bytes : (bytes : List ℕ) → length bytes ≡ 0 → bytes ≡ []
   no-bytes [] h = refl

@@ -11,7 +11,7 @@ use borrow.Author.Tests.{eq-eqb, ne-eqb, lt-ltb, le-ltb, le-leb, lt-leb, eqb-tru
 use lib.Dec.{eqb, ltb, leb}
 use lib.ListN.{length, take, drop, length-append, length-drop}
 use lib.Seq.{take-all}
-use Rattle.test_text.specs.Lines.{before, items, paired, hexBytes, digitsOf, decimalFrom, timesOf, copies, itemBytes, bytesOf, right, fileOf}
+use Rattle.test_text.specs.Lines.{before, items, paired, hexBytes, digitsOf, decimalFrom, timesOf, copies, itemBytes, itemsBytes, right, fileOf}
 use Rattle.test_text.specs.Steps.{itemLength}
 use Rattle.test_text.proofs.Before.{before-take, items-here}
 use Rattle.test_text.proofs.Digits.{bytes-length, copies-length}
@@ -119,12 +119,12 @@ chosen true bytes = refl
 chosen false bytes = refl
 
 pub sized-all : (room len : ℕ) (items : List (List ℕ)) → len ≤ room →
-    sized room len items ≡ cond (right items && leb (len + length (bytesOf items)) room) (len + length (bytesOf items)) 0
+    sized room len items ≡ cond (right items && leb (len + length (itemsBytes items)) room) (len + length (itemsBytes items)) 0
 sized-all room len [] h = let none : len + 0 ≡ len = omega arith in rw (none, le-leb len room h)
 sized-all room len (item ∷ more) h =
     let size : ℕ = length (itemBytes item) in
-    let rest : ℕ = length (bytesOf more) in
-    let long : length (itemBytes item ++ bytesOf more) ≡ size + rest = length-append (itemBytes item) (bytesOf more) in
+    let rest : ℕ = length (itemsBytes more) in
+    let long : length (itemBytes item ++ itemsBytes more) ≡ size + rest = length-append (itemBytes item) (itemsBytes more) in
     let there : len + (size + rest) ≡ len + size + rest = omega arith in
     by-cases (decLe 1 size)
     (λ some.
@@ -148,24 +148,24 @@ module _ (line : List ℕ) (room : ℕ) where
   pub file-length : length (before 32 line) ≡ 1 → sized room 0 (items line) ≡ length (fileOf line room)
   unfolding fileOf
   file-length e =
-      let bytes : List ℕ = bytesOf (items line) in
+      let bytes : List ℕ = itemsBytes (items line) in
       let none = zero-add (length bytes) in
       rw (eq-eqb (length (before 32 line)) 1 e, chosen (right (items line) && leb (length bytes) room) bytes)
       (sized-all room 0 (items line) (omega arith) ∙ ap (λ (k : ℕ). cond (right (items line) && leb k room) k 0) none)
 
   -- where there are bytes, the line has the form, and there is room
   pub file-there : 0 < length (fileOf line room) →
-      (length (before 32 line) ≡ 1) × (right (items line) ≡ true) × (length (bytesOf (items line)) ≤ room) × (fileOf line room ≡ bytesOf (items line))
+      (length (before 32 line) ≡ 1) × (right (items line) ≡ true) × (length (itemsBytes (items line)) ≤ room) × (fileOf line room ≡ itemsBytes (items line))
   unfolding fileOf
   file-there h =
-      let fits = leb (length (bytesOf (items line))) room in
-      let all = some-true (eqb (length (before 32 line)) 1 && (right (items line) && fits)) (bytesOf (items line)) h in
+      let fits = leb (length (itemsBytes (items line))) room in
+      let all = some-true (eqb (length (before 32 line)) 1 && (right (items line) && fits)) (itemsBytes (items line)) h in
       let form = and-both (eqb (length (before 32 line)) 1) (right (items line) && fits) all in
       let rest = and-both (right (items line)) fits (form .1) in (
         eqb-true (length (before 32 line)) 1 (form .0),
         rest .0,
-        leb-true (length (bytesOf (items line))) room (rest .1),
-        ap (λ (b : Bool). cond b (bytesOf (items line)) []) all,
+        leb-true (length (itemsBytes (items line))) room (rest .1),
+        ap (λ (b : Bool). cond b (itemsBytes (items line)) []) all,
       )
 
 -- an item with bytes has pairs of digits
@@ -193,5 +193,5 @@ module _ (line : List ℕ) (at end : ℕ) (more : at < length line) (here : befo
       let both = and-both (leb 1 (length (itemBytes item))) (right (items (drop end line))) (next ∙ r) in
       (item-paired item (leb-true 1 (length (itemBytes item)) (both .0)), both .1)
 
-  pub turn-bytes : bytesOf (items (drop at line)) ≡ itemBytes item ++ bytesOf (items (drop end line))
-  turn-bytes = ap bytesOf (items-here line at end more here e)
+  pub turn-bytes : itemsBytes (items (drop at line)) ≡ itemBytes item ++ itemsBytes (items (drop end line))
+  turn-bytes = ap itemsBytes (items-here line at end more here e)

@@ -67,9 +67,9 @@ unfoldable pub itemBytes : List ℕ → List ℕ
 itemBytes item = cond (paired (digitsOf item)) (copies (timesOf item) (hexBytes (digitsOf item))) []
 
 -- the bytes of items, one item after another
-abbrev pub bytesOf : List (List ℕ) → List ℕ
-bytesOf [] = []
-bytesOf (item ∷ items) = itemBytes item ++ bytesOf items
+abbrev pub itemsBytes : List (List ℕ) → List ℕ
+itemsBytes [] = []
+itemsBytes (item ∷ items) = itemBytes item ++ itemsBytes items
 
 -- has each item bytes
 abbrev pub right : List (List ℕ) → Bool
@@ -80,8 +80,8 @@ right (item ∷ items) = leb 1 (length (itemBytes item)) && right items
 -- item has bytes, and there is room for all of them.
 unfoldable pub fileOf : List ℕ → ℕ → List ℕ
 fileOf line room =
-    cond (eqb (length (before 32 line)) 1 && (right (items line) && leb (length (bytesOf (items line))) room))
-    (bytesOf (items line)) []
+    cond (eqb (length (before 32 line)) 1 && (right (items line) && leb (length (itemsBytes (items line))) room))
+    (itemsBytes (items line)) []
 
 -- the rule of `read_line`: the letter (0 where the line is empty), where the next line begins, how many bytes the file has
 unfoldable pub lineRule : List ℕ → ℕ → ℕ → Described

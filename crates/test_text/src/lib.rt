@@ -7,7 +7,7 @@ ghost use mathlib.Core.Path.{_≡_};
 ghost use Prim.Native.Nat.{_+_, _*_, _<_, _≤_};
 ghost use lib.ListN.{length, drop, getD};
 ghost use Rattle.test_text.specs.Lines.{before, items, hexDigit, hexByte, paired, hexBytes, decimalFrom, digitsOf, timesOf};
-ghost use Rattle.test_text.specs.Lines.{itemBytes, bytesOf, right, fileOf, lineAt, lineRule, over};
+ghost use Rattle.test_text.specs.Lines.{itemBytes, itemsBytes, right, fileOf, lineAt, lineRule, over};
 ghost use Rattle.test_text.specs.Steps.{itemLength, put};
 
 // A line's letter, where the next line begins, and how many bytes of the file there are.
@@ -214,8 +214,8 @@ fn hex_digit(b: u8) -> u8
 fn write_items(line: &[u8], room: &mut [u8])
     requires { ⌜ length (before 32 (now line)) ≡ 1 ⌝ }
     requires { ⌜ right (items (now line)) ≡ true ⌝ }
-    requires { ⌜ length (bytesOf (items (now line))) ≤ length (now room) ⌝ }
-    ensures { λ r. ⌜ now (room .exit) ≡ put (now (room .entry)) 0 (bytesOf (items (now (line .entry)))) ⌝ }
+    requires { ⌜ length (itemsBytes (items (now line))) ≤ length (now room) ⌝ }
+    ensures { λ r. ⌜ now (room .exit) ≡ put (now (room .entry)) 0 (itemsBytes (items (now (line .entry)))) ⌝ }
 {
     let mut at: usize = 1;
     let mut len: usize = 0;

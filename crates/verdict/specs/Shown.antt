@@ -31,8 +31,8 @@ abbrev workedPlan : List ℕ
 workedPlan = (2 ∷ 0 ∷ 1 ∷ zeros 13) ++ (2 ∷ 0 ∷ 5 ∷ zeros 21)
 
 -- what is printed, and what 01 says
-abbrev pub shown : List (List ℕ × List ℕ)
-shown =
+abbrev pub shownLines : List (List ℕ × List ℕ)
+shownLines =
     (lineOf (verdictRule none (emptyPlan 0)), ascii "ok unstarted 0 0 0\n") ∷
     (lineOf (verdictRule none workedPlan), ascii "ok unstarted 0 0 0\n") ∷
     (lineOf (verdictRule started (emptyPlan 0)), ascii "ok done 0 1 1\n") ∷

@@ -2,7 +2,7 @@
 -- Assumes nothing.
 use borrow.Author.Needs.{needs}
 use mathlib.Core.Path.{refl, sym, _∙_}
-use Rattle.core_exports.specs.Numbers.{advancedBy}
+use Rattle.core_exports.specs.Numbers.{cursorAdvancedBy}
 use Rattle.core_exports.proofs.Arms.{by-arms}
 use Rattle.core_exports.proofs.hiskurdo_cursor_advance.Statement.{statement}
 use Rattle.core_exports.proofs.hiskurdo_cursor_advance.Tie as tie
@@ -11,7 +11,7 @@ returns : tie.Need-returns
 returns c =
     let named = c .before .before .before .before .before .before .before .before .before .cursor-of in
     let read = c .before .before .before .before .before .record-of in
-    by-arms (advancedBy (c .before .before .before .before .before .before .before .before .before .before .args .cursor))
+    by-arms (cursorAdvancedBy (c .before .before .before .before .before .before .before .before .before .before .args .cursor))
     (sym (named .ensures) ∙ c .before .before .before .before .before .before .before .c .given .1)
     (sym (read .ensures) ∙ c .before .before .before .x .given .1)
     (rw (c .advanced-numbers .ensures, c .before .advance .ensures))
@@ -20,14 +20,14 @@ returns-2 : tie.Need-returns-2
 returns-2 c =
     let named = c .before .before .before .before .before .before .before .cursor-of in
     let read = c .before .before .before .record-of in
-    by-arms (advancedBy (c .before .before .before .before .before .before .before .before .args .cursor))
+    by-arms (cursorAdvancedBy (c .before .before .before .before .before .before .before .before .args .cursor))
     (sym (named .ensures) ∙ c .before .before .before .before .before .c .given .1) (sym (read .ensures) ∙ c .before .enum-told .given .1)
     (c .cursor-kept .ensures)
 
 returns-3 : tie.Need-returns-3
 returns-3 c =
     let named = c .before .before .before .cursor-of in
-    by-arms (advancedBy (c .before .before .before .before .args .cursor))
+    by-arms (cursorAdvancedBy (c .before .before .before .before .args .cursor))
     (sym (named .ensures) ∙ c .before .enum-told2 .given .1) refl (rw (c .cursor-kept2 .ensures))
 
 pub hiskurdo-cursor-advance-spec : {M : Type 1} → statement M

@@ -7,7 +7,7 @@ use mathlib.Core.Bool.{true}
 use mathlib.Core.List.{List, []}
 use mathlib.Core.Path.{_≡_, sym, _∙_, ap}
 use native.Mathlib.Omega.{arith}
-use Rattle.test_text.specs.Lines.{before, items, itemBytes, bytesOf, right}
+use Rattle.test_text.specs.Lines.{before, items, itemBytes, itemsBytes, right}
 use Rattle.test_text.proofs.Before.{before-length, items-first, space-next}
 use Rattle.test_text.proofs.Put.{Left, left-all, left-put, left-none}
 use Rattle.test_text.proofs.Sizes.{turn-right, turn-bytes}
@@ -16,7 +16,7 @@ use Rattle.test_text.proofs.write_items.Tie as tie
 
 abbrev Inv-loop : tie.InvT-loop
 Inv-loop line room₀ at₀ len₀ room at len =
-    Left room₀ 0 (bytesOf (items line)) room len (bytesOf (items (drop at line))) × (before 32 (drop at line) ≡ []) ×
+    Left room₀ 0 (itemsBytes (items line)) room len (itemsBytes (items (drop at line))) × (before 32 (drop at line) ≡ []) ×
     (right (items (drop at line)) ≡ true) × (at ≤ length line)
 
 abbrev μ-loop : tie.MeasureT-loop
@@ -28,7 +28,7 @@ loop-holds c =
     let args = start .args in
     let line = args .line .now in
     let first = items-first line (start .pre .0) in (
-      rw (first .0) (left-all (args .room .now) 0 (bytesOf (items line))),
+      rw (first .0) (left-all (args .room .now) 0 (itemsBytes (items line))),
       first .1,
       ap right (first .0) ∙ start .pre .1 .0,
       omega (arith, before-length 32 line),
@@ -45,7 +45,7 @@ write-item-requires c κs =
       omega (
         arith,
         ap length (turn-bytes line (loop .at) (end .result) (omega arith) (loop .inv .1) (end .ensures .0)),
-        length-append (itemBytes item) (bytesOf (items (drop (end .result) line))),
+        length-append (itemBytes item) (itemsBytes (items (drop (end .result) line))),
       ),
     )
 
@@ -58,9 +58,9 @@ loop-again c =
     let line = args .line .now in
     let start = loop .at + 1 in
     let item = take (end .result - start) (drop start line) in
-    let rest = bytesOf (items (drop (end .result) line)) in
+    let rest = itemsBytes (items (drop (end .result) line)) in
     let bytes = turn-bytes line (loop .at) (end .result) (omega arith) (loop .inv .1) (end .ensures .0) in (
-      left-put (args .room .now) 0 (bytesOf (items line)) (loop .room) (loop .len) (bytesOf (items (drop (loop .at) line))) (loop .inv .0)
+      left-put (args .room .now) 0 (itemsBytes (items line)) (loop .room) (loop .len) (itemsBytes (items (drop (loop .at) line))) (loop .inv .0)
           (itemBytes item) rest (written .last .1 .0) (written .result) bytes (omega (arith, ap length bytes, length-append (itemBytes item) rest))
           (written .ensures .1) (written .ensures .0),
       space-next line (loop .at) (end .result) (omega arith) (loop .inv .1) (end .ensures .0),
@@ -73,8 +73,8 @@ returns c =
     let loop = c .before .loop in
     let args = c .before .before .before .before .args in
     let line = args .line .now in
-    left-none (args .room .now) 0 (bytesOf (items line)) (loop .room) (loop .len) (bytesOf (items (drop (loop .at) line))) (loop .inv .0)
-    (ap (λ (left : List _). bytesOf (items left)) (drop-of-length-le line {i = loop .at} (omega arith))) .1
+    left-none (args .room .now) 0 (itemsBytes (items line)) (loop .room) (loop .len) (itemsBytes (items (drop (loop .at) line))) (loop .inv .0)
+    (ap (λ (left : List _). itemsBytes (items left)) (drop-of-length-le line {i = loop .at} (omega arith))) .1
 
 pub write-items-spec : {M : Type 1} → statement M
 write-items-spec =

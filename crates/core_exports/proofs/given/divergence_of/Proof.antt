@@ -4,37 +4,37 @@ use mathlib.Core.Path.{refl}
 use Prim.Native.Nat.{ℕ}
 use borrow.Author.Tests.{ne-eqb}
 use Rattle.errors.proofs.Arms.{by-arm}
-use Rattle.core_exports.specs.Given.{divergenceOf}
+use Rattle.core_exports.specs.Given.{divergenceNamed}
 use Rattle.core_exports.proofs.given.divergence_of.Statement.{statement}
 use Rattle.core_exports.proofs.given.divergence_of.Tie as tie
 
 returns : tie.Need-returns
 returns c =
-    by-arm (λ (n : ℕ). divergenceOf n) (c .match .keys1) refl
+    by-arm (λ (n : ℕ). divergenceNamed n) (c .match .keys1) refl
 
 returns-2 : tie.Need-returns-2
 returns-2 c =
-    by-arm (λ (n : ℕ). divergenceOf n) (c .match .keys2) refl
+    by-arm (λ (n : ℕ). divergenceNamed n) (c .match .keys2) refl
 
 returns-3 : tie.Need-returns-3
 returns-3 c =
-    by-arm (λ (n : ℕ). divergenceOf n) (c .match .keys3) refl
+    by-arm (λ (n : ℕ). divergenceNamed n) (c .match .keys3) refl
 
 returns-4 : tie.Need-returns-4
 returns-4 c =
-    by-arm (λ (n : ℕ). divergenceOf n) (c .match .keys4) refl
+    by-arm (λ (n : ℕ). divergenceNamed n) (c .match .keys4) refl
 
 returns-5 : tie.Need-returns-5
 returns-5 c =
-    by-arm (λ (n : ℕ). divergenceOf n) (c .match .keys5) refl
+    by-arm (λ (n : ℕ). divergenceNamed n) (c .match .keys5) refl
 
 returns-6 : tie.Need-returns-6
 returns-6 c =
-    by-arm (λ (n : ℕ). divergenceOf n) (c .match .keys6) refl
+    by-arm (λ (n : ℕ). divergenceNamed n) (c .match .keys6) refl
 
 returns-7 : tie.Need-returns-7
 returns-7 c =
-    by-arm (λ (n : ℕ). divergenceOf n) (c .match .keys7) refl
+    by-arm (λ (n : ℕ). divergenceNamed n) (c .match .keys7) refl
 
 returns-8 : tie.Need-returns-8
 returns-8 c =

@@ -5,7 +5,7 @@ use mathlib.Core.Path.{refl, sym, _∙_}
 use Prim.Native.Nat.{ℕ}
 use borrow.Author.Tests.{ne-eqb}
 use Rattle.errors.proofs.Arms.{by-arm}
-use Rattle.core_exports.specs.Given.{nextOf, nextBy}
+use Rattle.core_exports.specs.Given.{nextNamed, nextBy}
 use Rattle.core_exports.proofs.given.next_of.Statement.{statement}
 use Rattle.core_exports.proofs.given.next_of.Tie as tie
 
@@ -13,20 +13,20 @@ returns : tie.Need-returns
 returns c =
     let args = c .before .before .before .before .before .args in
     let named = c .before .before .before .record-of in
-    by-arm (λ (ended : ℕ). nextOf ended (args .«record»)) (c .before .before .before .before .match .keys1)
+    by-arm (λ (ended : ℕ). nextNamed ended (args .«record»)) (c .before .before .before .before .match .keys1)
     (by-arm nextBy (sym (named .ensures) ∙ c .before .x .given .1) refl)
 
 returns-2 : tie.Need-returns-2
 returns-2 c =
     let args = c .before .before .before .before .args in
     let named = c .before .before .record-of in
-    by-arm (λ (ended : ℕ). nextOf ended (args .«record»)) (c .before .before .before .match .keys1)
+    by-arm (λ (ended : ℕ). nextNamed ended (args .«record»)) (c .before .before .before .match .keys1)
     (by-arm nextBy (sym (named .ensures) ∙ c .enum-told .given .1) refl)
 
 returns-3 : tie.Need-returns-3
 returns-3 c =
     let args = c .before .args in
-    by-arm (λ (ended : ℕ). nextOf ended (args .«record»)) (c .match .keys2) refl
+    by-arm (λ (ended : ℕ). nextNamed ended (args .«record»)) (c .match .keys2) refl
 
 returns-4 : tie.Need-returns-4
 returns-4 c =

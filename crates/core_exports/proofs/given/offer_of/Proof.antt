@@ -4,19 +4,19 @@ use mathlib.Core.Path.{refl}
 use Prim.Native.Nat.{ℕ}
 use borrow.Author.Tests.{ne-eqb}
 use Rattle.errors.proofs.Arms.{by-arm}
-use Rattle.core_exports.specs.Given.{offerOf}
+use Rattle.core_exports.specs.Given.{offerNamed}
 use Rattle.core_exports.proofs.given.offer_of.Statement.{statement}
 use Rattle.core_exports.proofs.given.offer_of.Tie as tie
 
 returns : tie.Need-returns
 returns c =
     let args = c .before .args in
-    by-arm (λ (flag : ℕ). offerOf flag (args .n)) (c .match .keys1) refl
+    by-arm (λ (flag : ℕ). offerNamed flag (args .n)) (c .match .keys1) refl
 
 returns-2 : tie.Need-returns-2
 returns-2 c =
     let args = c .before .args in
-    by-arm (λ (flag : ℕ). offerOf flag (args .n)) (c .match .keys2) refl
+    by-arm (λ (flag : ℕ). offerNamed flag (args .n)) (c .match .keys2) refl
 
 returns-3 : tie.Need-returns-3
 returns-3 c =

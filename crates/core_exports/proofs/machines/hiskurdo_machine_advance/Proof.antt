@@ -2,7 +2,7 @@
 -- Assumes nothing.
 use borrow.Author.Needs.{needs}
 use mathlib.Core.Path.{refl, sym, _∙_}
-use Rattle.core_exports.specs.MachineNumbers.{advancedBy}
+use Rattle.core_exports.specs.MachineNumbers.{machineAdvancedBy}
 use Rattle.core_exports.proofs.Arms.{by-arms}
 use Rattle.core_exports.proofs.machines.hiskurdo_machine_advance.Statement.{statement}
 use Rattle.core_exports.proofs.machines.hiskurdo_machine_advance.Tie as tie
@@ -11,7 +11,7 @@ returns : tie.Need-returns
 returns c =
     let named = c .before .before .before .before .before .before .before .before .before .before .machine-of in
     let read = c .before .before .before .before .before .before .record-of in
-    by-arms (advancedBy (c .before .before .before .before .before .before .before .before .before .before .before .args .machine))
+    by-arms (machineAdvancedBy (c .before .before .before .before .before .before .before .before .before .before .before .args .machine))
     (sym (named .ensures) ∙ c .before .before .before .before .before .before .before .before .m .given .1)
     (sym (read .ensures) ∙ c .before .before .before .before .x .given .1)
     (rw (c .answered .ensures, c .before .step-result-told .ensures, c .before .before .advance .ensures))
@@ -20,14 +20,14 @@ returns-2 : tie.Need-returns-2
 returns-2 c =
     let named = c .before .before .before .before .before .before .before .machine-of in
     let read = c .before .before .before .record-of in
-    by-arms (advancedBy (c .before .before .before .before .before .before .before .before .args .machine))
+    by-arms (machineAdvancedBy (c .before .before .before .before .before .before .before .before .args .machine))
     (sym (named .ensures) ∙ c .before .before .before .before .before .m .given .1) (sym (read .ensures) ∙ c .before .enum-told .given .1)
     (c .machine-kept .ensures)
 
 returns-3 : tie.Need-returns-3
 returns-3 c =
     let named = c .before .before .before .machine-of in
-    by-arms (advancedBy (c .before .before .before .before .args .machine))
+    by-arms (machineAdvancedBy (c .before .before .before .before .args .machine))
     (sym (named .ensures) ∙ c .before .enum-told2 .given .1) refl (rw (c .machine-kept2 .ensures))
 
 pub hiskurdo-machine-advance-spec : {M : Type 1} → statement M
