@@ -24,7 +24,8 @@ use Rattle.histories.specs.Checklist.{refusalNumbers, refusalDivergences, diver
 use Rattle.histories.specs.Promise.{Promise, RefusedCount, Counted}
 use Rattle.histories.proofs.Numbers.{Each, each}
 use Rattle.lines.specs.Words.{Row, table, isOf, endingDetail, detailOf}
-use Rattle.resume.specs.Verdict.{verdictBy, verdictRule, KeptBy, Kept}
+use Rattle.resume.specs.EndResult.{KeptBy, Kept}
+use Rattle.resume.specs.Verdict.{verdictBy, verdictRule}
 use Rattle.resume.proofs.Keeps.{keeps}
 
 abbrev hasRow : List Row → ℕ → ℕ → Bool

@@ -4,3 +4,4 @@ pub mod Loops
 pub mod Keeps
 pub mod Outcomes
 pub mod Parts
+pub mod EndResult

@@ -1,3 +1,4 @@
+pub mod EndResult
 pub mod Places
 pub mod Verdict
 pub mod Handing
