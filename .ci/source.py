@@ -34,6 +34,8 @@ def edits(crate):
 
 
 def claims(edit):
-    """Each comment of an edit as (function or theorem, need, what is wrong), or as None where it is no claim."""
-    found = (CLAIM.match(line) for line in edit.read_text().splitlines() if line.startswith("#"))
+    """Each comment of an edit but the first as (function or theorem, need, what is wrong), or as None where it is no claim.
+    The first, `## ..`, says how the edit is made."""
+    first, *lines = edit.read_text().splitlines()
+    found = [CLAIM.match(line) for line in lines if line.startswith("#")] + [None] * (not first.startswith("## "))
     return [m and m.groups() for m in found]
