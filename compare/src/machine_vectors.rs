@@ -1,5 +1,6 @@
 //! The machine's share of the fixed sample of calls.
 
+use crate::after::After;
 use crate::calls::{Call, NextNumbers};
 use crate::divergence;
 use crate::ffi::{RecordNumbers, RequestNumbers, SpecNumbers};
@@ -7,7 +8,6 @@ use crate::long_scripts::{legal, likely_legal};
 use crate::random::Random;
 use crate::records::{KINDS, plain};
 use crate::rust_side::RustSide;
-use crate::vectors::After;
 
 /// Not 0, so that a new machine of this run is not what stands at the start.
 const RUN: u64 = 7;

@@ -1,6 +1,7 @@
 //! Feeds the proved code and the Rust source it was ported from the same calls, and
 //! compares every answer, every reader's value and the whole next state after each call.
 
+mod after;
 mod both;
 mod calls;
 mod divergence;
@@ -22,6 +23,7 @@ mod records;
 mod refused;
 mod rust_machine;
 mod rust_side;
+mod rust_values;
 mod scripts;
 mod timers;
 mod unread;

@@ -10,7 +10,8 @@ use waymaker_core::{EffectId, EffectSeq, GateId, KernelError, RecordRef, RunId, 
 use crate::calls::{Call, NextNumbers};
 use crate::ffi::{RecordNumbers, RequestNumbers, SpecNumbers};
 use crate::numbering_lines::{after, say_allocator, say_cursor};
-use crate::rust_side::{Plain, RustSide, record_of};
+use crate::rust_side::{Plain, RustSide};
+use crate::rust_values::record_of;
 
 const RUN: u64 = 7;
 const LAST: u32 = u32::MAX;

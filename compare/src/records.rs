@@ -3,7 +3,7 @@
 use crate::calls::CursorRead;
 use crate::ffi::RecordNumbers;
 use crate::random::Random;
-use crate::rust_side::BODY_LIMIT;
+use crate::rust_values::BODY_LIMIT;
 
 /// Every kind of record.
 pub const KINDS: [u8; 9] = [1, 2, 3, 4, 5, 6, 7, 8, 9];

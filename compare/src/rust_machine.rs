@@ -7,7 +7,7 @@ use waymaker_core::{
 
 use crate::calls::{Call, MachineRead, NextNumbers};
 use crate::ffi::{PendingNumbers, RecordNumbers, RequestNumbers, Told};
-use crate::rust_side::{
+use crate::rust_values::{
     capability_of, id_values, place_of, record_of, spec_of, told, told_error, told_outcome,
     told_pending, told_pending_timer, told_position, told_step,
 };

@@ -3,7 +3,7 @@
 use waymaker_core::ReplayMachine;
 
 use crate::ffi::Told;
-use crate::rust_side::told;
+use crate::rust_values::told;
 
 /// The number that the machine offers, and its phase.
 pub struct Unread {

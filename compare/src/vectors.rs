@@ -7,6 +7,7 @@ use std::io;
 use std::path::Path;
 
 use crate::Settings;
+use crate::after::After;
 use crate::both::Both;
 use crate::calls::Call;
 use crate::ffi::{RecordNumbers, SpecNumbers};
@@ -14,7 +15,7 @@ use crate::long_runs::{legal, likely_legal};
 use crate::machine_vectors;
 use crate::random::Random;
 use crate::records::{KINDS, has_number, plain, right_number, wrong_numbers};
-use crate::rust_side::{Plain, RustSide};
+use crate::rust_side::RustSide;
 use crate::unread::Unread;
 use crate::values;
 use crate::whole::Changed;
@@ -227,49 +228,6 @@ fn positions(calls: &mut Vec<Call>) {
                 }
             }
         }
-    }
-}
-
-/// Calls that are each made after the same history. It is made again only where the call
-/// before changed something.
-pub struct After {
-    new: Call,
-    history: Vec<Call>,
-    /// What stands after the history.
-    there: RustSide,
-    /// What stands after the last call.
-    now: RustSide,
-}
-
-impl After {
-    pub fn new(new: Call, history: Vec<Call>) -> After {
-        let mut there = RustSide::new();
-        there.answer(&new);
-        for call in &history {
-            there.answer(call);
-        }
-        After {
-            new,
-            history,
-            there,
-            now: RustSide::new(),
-        }
-    }
-
-    /// The call after the history.
-    pub fn make(&mut self, calls: &mut Vec<Call>, call: Call) {
-        if self.now != self.there {
-            calls.push(self.new);
-            calls.extend(&self.history);
-            self.now = self.there.copy();
-        }
-        self.make_on(calls, call);
-    }
-
-    /// The call after the one before.
-    fn make_on(&mut self, calls: &mut Vec<Call>, call: Call) {
-        calls.push(call);
-        self.now.answer(&call);
     }
 }
 

@@ -1,12 +1,12 @@
 //! Good files with damage, random bytes, and walks from any place.
 
 use crate::Settings;
-use crate::files::{Compared, FORMATS};
+use crate::compared_files::Compared;
 use crate::made_files::set;
 use crate::numbers;
 use crate::proved;
 use crate::random::Random;
-use crate::reader::{ENTRY, Format, HEADER, MOST_BYTES};
+use crate::reader::{ENTRY, FORMATS, Format, HEADER, MOST_BYTES};
 use crate::report::differ_on_file;
 use crate::samples::{self, full_file, random_file};
 

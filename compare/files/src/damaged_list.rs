@@ -3,11 +3,10 @@
 use std::collections::BTreeSet;
 use std::fmt::Write;
 
-use crate::files::FORMATS;
 use crate::made_files::set_field;
 use crate::numbers;
 use crate::random::Random;
-use crate::reader::{ENTRY, Entry, Format, GREATEST, HEADER, MOST_BYTES};
+use crate::reader::{ENTRY, Entry, FORMATS, Format, GREATEST, HEADER, MOST_BYTES};
 use crate::samples::{self, empty_entry, kinds, random_file, set_body};
 use crate::text::items;
 use crate::writing::File;

@@ -1,7 +1,7 @@
 //! Files made to fail each check, at every place.
 
-use crate::files::{Compared, FORMATS};
-use crate::reader::{ENTRY, Entry, Format, GREATEST, HEADER};
+use crate::compared_files::Compared;
+use crate::reader::{ENTRY, Entry, FORMATS, Format, GREATEST, HEADER};
 use crate::samples::{self, body_field, empty_entry, set_body};
 use crate::writing::File;
 

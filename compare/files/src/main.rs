@@ -2,6 +2,7 @@
 //! compares every answer.
 
 mod bench;
+mod compared_files;
 mod damaged_files;
 mod damaged_list;
 mod files;

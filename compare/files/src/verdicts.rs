@@ -133,7 +133,7 @@ fn change_bytes(random: &mut Random, file: &mut Vec<u8>) {
         1 => file.push(random.next() as u8),
         2 => file.clear(),
         3 => file.resize(MOST_BYTES + 1, 0),
-        4 => *file = samples::worked(random.pick(&crate::files::FORMATS)),
+        4 => *file = samples::worked(random.pick(&crate::reader::FORMATS)),
         5 => file[at] = random.next() as u8,
         _ => file[at] ^= 1 << random.below(8),
     }
