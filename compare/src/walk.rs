@@ -49,7 +49,7 @@ impl Walk {
         }
     }
 
-    /// Whether from here so many calls were not made yet; from now on they are.
+    /// Says whether this many calls still have to be made from here, and remembers that they are.
     fn is_new(&mut self, both: &Both, depth: u32) -> bool {
         let before = self.followed.get(&both.proved);
         if before.is_some_and(|(rust, calls)| *rust == both.rust && *calls >= depth) {
