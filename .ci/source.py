@@ -1,4 +1,4 @@
-"""What the gate's scripts read of the source: the libraries, their public functions, and what the must-fail edits claim."""
+"""Reads the source for the gate's scripts: the libraries, their public functions, and what the must-fail edits claim."""
 import pathlib, re
 
 ROOT = pathlib.Path(__file__).resolve().parent.parent
@@ -34,8 +34,8 @@ def edits(crate):
 
 
 def claims(edit):
-    """Each comment of an edit but the first as (function or theorem, need, what is wrong), or as None where it is no claim.
-    The first, `## ..`, says how the edit is made."""
+    """Each comment of an edit but the first, as (function or theorem, need, what is wrong), or None where it is no claim.
+    The first comment, `## ..`, says how the edit is made."""
     first, *lines = edit.read_text().splitlines()
     found = [CLAIM.match(line) for line in lines if line.startswith("#")] + [None] * (not first.startswith("## "))
     return [m and m.groups() for m in found]
