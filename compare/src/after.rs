@@ -3,14 +3,14 @@
 use crate::calls::Call;
 use crate::rust_side::{Plain, RustSide};
 
-/// Calls that are each made after the same history. It is made again only where the call
-/// before changed something.
+/// Calls that are each made after the same history. The history is made again only where
+/// the call before changed something.
 pub struct After {
     new: Call,
     history: Vec<Call>,
-    /// What stands after the history.
+    /// The Rust's side after the history.
     pub there: RustSide,
-    /// What stands after the last call.
+    /// The Rust's side after the last call.
     pub now: RustSide,
 }
 
@@ -29,7 +29,7 @@ impl After {
         }
     }
 
-    /// The call after the history.
+    /// Makes the call after the history.
     pub fn make(&mut self, calls: &mut Vec<Call>, call: Call) {
         if self.now != self.there {
             calls.push(self.new);
@@ -39,7 +39,7 @@ impl After {
         self.make_on(calls, call);
     }
 
-    /// The call after the one before.
+    /// Makes the call after the last one.
     pub fn make_on(&mut self, calls: &mut Vec<Call>, call: Call) {
         calls.push(call);
         self.now.answer(&call);

@@ -1,4 +1,4 @@
-//! Both sides, fed the same calls.
+//! Both sides. They are given the same calls.
 
 use std::fmt::Debug;
 use std::process;
@@ -16,11 +16,11 @@ pub struct Both {
     whole: Whole,
     /// The calls since the last `begin`, for the report of a difference.
     calls: Vec<Call>,
-    /// What went before these calls, where they are too many to list.
+    /// The calls before these, in words, where they are too many to list.
     before: String,
 }
 
-/// A place to come back to: where both sides stand.
+/// The states of both sides, to come back to.
 pub struct Place {
     rust: RustSide,
     proved: ProvedSide,
@@ -39,7 +39,7 @@ impl Both {
         }
     }
 
-    /// Begins a new sequence with a call that nothing before it bears on.
+    /// Begins a new sequence with a call that does not depend on the calls before it.
     pub fn begin(&mut self, call: Call) -> Answer {
         self.calls.clear();
         self.before.clear();
@@ -64,14 +64,14 @@ impl Both {
         self.compared += 1;
     }
 
-    /// Compares what both sides hold.
+    /// Compares the whole values of both sides.
     pub fn compare_whole(&mut self, changed: Changed) {
         if let Err((rust, proved)) = self.whole.same(changed, &self.rust, &self.proved) {
             self.differ(&format_args!("{rust}"), &format_args!("{proved}"));
         }
     }
 
-    /// Tells in words the calls that were made past the list, and empties the list.
+    /// Keeps words for the calls that were made without being listed, and empties the list.
     pub fn set_before(&mut self, before: String) {
         self.calls.clear();
         self.before = before;
@@ -106,7 +106,7 @@ impl Both {
         self.calls.truncate(place.calls);
     }
 
-    /// Whether either side does not stand as it does at the place.
+    /// Whether either side has another state than at that place.
     pub fn moved_from(&self, place: &Place) -> bool {
         self.rust != place.rust || self.proved != place.proved
     }

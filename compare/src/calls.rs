@@ -6,7 +6,7 @@ use std::fmt;
 
 use crate::ffi::{PendingNumbers, RecordNumbers, RequestNumbers, SpecNumbers, Told};
 
-/// What is next in history: the record, or where `ended` is 1 the end.
+/// What is next in history: the record, or the end where `ended` is 1.
 #[derive(Clone, Copy, Debug)]
 pub struct NextNumbers {
     pub ended: u8,

@@ -10,7 +10,7 @@ const RUNS: [u64; 5] = [0, 7, 0xFFFF_FFFF, 0x1_0000_0000, u64::MAX];
 const NUMBERS: [u32; 5] = [0, 1, 65_536, 0x8000_0000, u32::MAX];
 const SHORT: [u16; 4] = [0, 4, 255, u16::MAX];
 
-/// A run, a number, a kind, a length and a CRC: those that are asked for, or recorded.
+/// A run, a number, a kind, a length and a CRC, as asked for or as recorded.
 type Fields = [u64; 5];
 
 /// How many bits each field has.
@@ -31,8 +31,8 @@ pub fn run(_settings: &Settings, both: &mut Both) {
     }
 }
 
-/// The same fields; every set of fields changed in one bit; each field in each bit and
-/// with each boundary value.
+/// The same fields; the fields of every subset changed in one bit; each field changed in each
+/// bit and set to each boundary value.
 fn from(both: &mut Both, fields: Fields) {
     for set in 0..32 {
         both_ways(both, fields, changed(fields, set));
@@ -52,7 +52,7 @@ fn from(both: &mut Both, fields: Fields) {
     }
 }
 
-/// The fields of the set are changed in a bit, low or high.
+/// Changes one bit, low or high, in each field of the set.
 fn changed(fields: Fields, set: u32) -> Fields {
     let mut other = fields;
     for field in 0..5 {

@@ -12,7 +12,7 @@ use crate::walk::walk;
 use crate::whole::Changed;
 
 const RUN: u64 = 7;
-/// How deep every sequence of records is tried near the end and at the end.
+/// The length of the sequences of records that are tried near the end and at the end.
 const DEPTH: u32 = 4;
 
 const EXHAUSTED: u64 = 21;
@@ -55,7 +55,7 @@ impl Walked for Cursors {
     }
 }
 
-/// What the Rust source is known to answer once every number is spent.
+/// What the Rust source answers once every number is spent.
 fn at_the_end(both: &mut Both) {
     let cursor = both.rust.read_cursor();
     assert_eq!(cursor.next_seq.number, 0, "no number is left");

@@ -1,7 +1,7 @@
 //! The proved code, linked as a static library: the exports of crates/core_exports.
 //!
 //! Every type here is plain numbers. Nothing checks these declarations against
-//! crates/core_exports/src/lib.rt, so the two are kept side by side.
+//! crates/core_exports/src, so whoever changes one must change the other.
 
 /// An answer in numbers: its own number, then its values, 0 where it has fewer than five.
 #[repr(C)]
@@ -53,7 +53,7 @@ pub struct RecordNumbers {
     pub start: u64,
 }
 
-/// A cursor. `position` counts the cases of `Position` from 0; the fields that a position does not hold are 0, and are not read.
+/// A cursor. `position` counts the cases of `Position` from 0. The fields that a position does not hold are 0, and are not read.
 #[repr(C)]
 #[derive(Clone, Copy, PartialEq, Eq, Hash, Debug, Default)]
 pub struct CursorNumbers {
@@ -115,7 +115,7 @@ pub struct MachineAnswered {
 /// The number of an answer where a given number names nothing: a kind of record that is none of 1 to 9, a clock of a spec that
 /// is not 1 or 2, a capability or a flag (`offers`, `committed`, `ended`) that is not 0 or 1, a position above 6, a halted
 /// position's error that is none of 21 to 26, a phase above 3, a diverged phase's divergence that is none of 1 to 7. The state
-/// in the answer is then the one that was given, number by number. Where an answer is one value, 0 is its number.
+/// in the answer is then the one that was given, number by number. An answer that is one value has the number 0, or this one.
 pub const NAMES_NOTHING: u64 = 60;
 
 unsafe extern "C" {
@@ -161,7 +161,7 @@ unsafe extern "C" {
     /// The value is the number of the divergence, 0 where there is none.
     pub safe fn hiskurdo_machine_diverged(machine: MachineNumbers) -> Told;
     pub safe fn hiskurdo_machine_advance(machine: MachineNumbers, record: RecordNumbers) -> MachineAnswered;
-    /// `ended` 0: `record` is next; 1: history ends here, and `record` is not read. So below.
+    /// `ended` 0: `record` is next; 1: history ends here, and `record` is not read. The same holds in the calls below.
     pub safe fn hiskurdo_machine_intent(machine: MachineNumbers, request: RequestNumbers, ended: u8, record: RecordNumbers) -> MachineAnswered;
     pub safe fn hiskurdo_machine_outcome(machine: MachineNumbers, ended: u8, record: RecordNumbers) -> MachineAnswered;
     pub safe fn hiskurdo_machine_timer_intent(machine: MachineNumbers, spec: SpecNumbers, capability: u8, ended: u8, record: RecordNumbers) -> MachineAnswered;

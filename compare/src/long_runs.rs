@@ -48,7 +48,7 @@ pub fn legal(random: &mut Random, cursor: &CursorRead) -> RecordNumbers {
     at_random(random, kind, right)
 }
 
-/// A record that may follow, an end of the run too, or now and then any record.
+/// A record that may follow (it may end the run), or now and then any record.
 pub fn likely_legal(random: &mut Random, cursor: &CursorRead) -> RecordNumbers {
     let legal = legal_kinds(cursor);
     let right = right_number(cursor);
@@ -59,7 +59,7 @@ pub fn likely_legal(random: &mut Random, cursor: &CursorRead) -> RecordNumbers {
     at_random(random, kind, right)
 }
 
-/// A record of any kind with a number that is right, nearly right, or neither.
+/// A record of any kind whose number is right, near the right one, or any.
 fn any(random: &mut Random, right: u32) -> RecordNumbers {
     let kind = random.pick(&KINDS);
     let number = match random.below(3) {

@@ -8,7 +8,7 @@ use crate::random::Random;
 use crate::records::{KINDS, at_random, wrong_numbers};
 use crate::rust_side::RustSide;
 
-/// The most calls in one script that cannot end it.
+/// The most calls in one script before those that may end it.
 const LENGTH: u64 = 10_000;
 /// How many calls follow them, legal or not.
 const TAIL: u64 = 40;
@@ -49,7 +49,7 @@ pub fn legal(random: &mut Random, rust: &RustSide) -> Call {
     }
 }
 
-/// A legal call, an end of the run too, or now and then any call.
+/// A legal call (it may end the run), or now and then any call.
 pub fn likely_legal(random: &mut Random, rust: &RustSide) -> Call {
     let right = rust.machine_number();
     match random.below(16) {
@@ -84,8 +84,8 @@ fn effect(random: &mut Random, right: u32) -> Call {
     }
 }
 
-/// A timer intent whose timer is next. It is refused where the clock is of no known kind
-/// or cannot be served.
+/// A timer intent whose timer is next. It is refused where the clock has no meaning or the
+/// board does not have it.
 fn timer(random: &mut Random, right: u32) -> Call {
     let mut record = at_random(random, 5, right);
     if !random.one_in(8) {
@@ -127,7 +127,7 @@ fn refused(random: &mut Random, record: RecordNumbers) -> Call {
     }
 }
 
-/// Where an effect is open. Half of these are refused: which ones, the phase tells.
+/// A call where an effect is open. Some of these are refused; the phase decides which.
 fn at_effect(random: &mut Random, right: u32) -> Call {
     let kind = random.pick(&[3, 4]);
     let record = at_random(random, kind, right);
@@ -139,7 +139,7 @@ fn at_effect(random: &mut Random, right: u32) -> Call {
     }
 }
 
-/// Where a timer is open, likewise.
+/// A call where a timer is open, likewise.
 fn at_timer(random: &mut Random, right: u32) -> Call {
     let record = at_random(random, 6, right);
     match random.below(5) {
@@ -150,7 +150,7 @@ fn at_timer(random: &mut Random, right: u32) -> Call {
     }
 }
 
-/// Any call with a record of any kind, and a number that is right, nearly right, or neither.
+/// Any call with a record of any kind whose number is right, near the right one, or any.
 fn any(random: &mut Random, right: u32) -> Call {
     let kind = random.pick(&KINDS);
     let number = match random.below(3) {
@@ -162,7 +162,7 @@ fn any(random: &mut Random, right: u32) -> Call {
     call_with(random, record)
 }
 
-/// Any call with the record next. What is asked for differs from it half of the time.
+/// Any call with this record next. The request differs from the record half of the time.
 fn call_with(random: &mut Random, record: RecordNumbers) -> Call {
     let next = match random.below(4) {
         0 => ended(record),
@@ -203,7 +203,7 @@ fn request_near(random: &mut Random, record: &RecordNumbers) -> RequestNumbers {
     request
 }
 
-/// The spec of that record. Where its clock has none, one on clock 2.
+/// The spec of that record, or a spec on clock 2 where the record's clock has none.
 fn spec_of(record: &RecordNumbers) -> SpecNumbers {
     SpecNumbers {
         deadline: record.d,

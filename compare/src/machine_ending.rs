@@ -13,7 +13,7 @@ use crate::walk::walk;
 use crate::whole::Changed;
 
 const RUN: u64 = 9;
-/// How deep every script is tried near the end and at the end.
+/// The length of the scripts that are tried near the end and at the end.
 const DEPTH: u32 = 4;
 
 const EXHAUSTED: u64 = 21;
@@ -23,11 +23,11 @@ const NO_CLOCK: u64 = 25;
 const REPLAYING: u64 = 1;
 const HALTED: u64 = 6;
 const BOUNDARY_KIND: u8 = 4;
-/// A recorded boundary, and one that is delivered or armed again.
+/// The answers' numbers for a recorded boundary, and for one that is delivered or armed again.
 const RECORDED: u64 = 1;
 const AGAIN: u64 = 1;
 
-/// What closes a boundary with what is next.
+/// Makes the call that closes a boundary, from what is next.
 type Close = fn(NextNumbers) -> Call;
 
 pub fn run(_settings: &Settings, both: &mut Both) {
@@ -87,7 +87,7 @@ fn with_the_last(both: &mut Both) {
     }
 }
 
-/// What the Rust source is known to answer once every number is spent.
+/// What the Rust source answers once every number is spent.
 fn at_the_end(both: &mut Both) {
     history_ended(both);
     own_opener(both);
@@ -106,7 +106,7 @@ fn history_ended(both: &mut Both) {
     }
 }
 
-/// The opener of what is asked for: no number is left, whatever else the record has.
+/// The own opener comes next: it is refused since no number is left, whatever else the record has.
 fn own_opener(both: &mut Both) {
     for s in [0, u32::MAX] {
         unchanged(both, intent(next(2, s)), EXHAUSTED);

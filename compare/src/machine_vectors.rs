@@ -9,7 +9,7 @@ use crate::random::Random;
 use crate::records::{KINDS, plain};
 use crate::rust_side::RustSide;
 
-/// Not 0, so that a new machine of this run is not what stands at the start.
+/// Not 0, so that a new machine of this run differs from the machine at the start.
 const RUN: u64 = 7;
 
 pub fn push(calls: &mut Vec<Call>, random: &mut Random) {
@@ -85,7 +85,7 @@ fn every_call() -> Vec<Call> {
     calls
 }
 
-/// Short histories that lead to every position in every phase it is found in.
+/// Short histories that lead to every position, in every phase that it can have.
 fn histories() -> Vec<Vec<Call>> {
     let end = NextNumbers::end();
     let recorded = intent(NextNumbers::of(short(2)));

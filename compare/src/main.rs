@@ -48,7 +48,7 @@ compare --script-depth N  how long the scripts of the machines' exhaustive part 
 compare --seed N          the seed of the random parts
 compare --vectors FOLDER  only writes FOLDER/stdin and FOLDER/stdout: a fixed sample of
                           calls, and the answers of the Rust source
-compare --numbering       only writes what the Rust source says at the end of numbering, in the
+compare --numbering       only prints what the Rust source says at the end of numbering, in the
                           lines of crates/test_numbering/stdout; about a minute
 compare --help            this text
 
@@ -58,7 +58,7 @@ the folder with libcore_exports.a; a relative one is taken from the root of the 
 /// How much is compared.
 pub struct Settings {
     pub seed: u64,
-    /// The longest sequences and scripts that are walked, nothing twice from the same place.
+    /// The longest sequences and scripts that are walked with nothing made twice from the same states.
     pub depth: u32,
     pub script_depth: u32,
     /// The longest that are walked with nothing left out.

@@ -8,9 +8,9 @@ use crate::ffi::{RecordNumbers, Told};
 use crate::proved_side::ProvedSide;
 use crate::rust_side::RustSide;
 
-/// How many markers one side is fed before the other; a power of two.
+/// How many markers one side is given before the other; a power of two.
 const CHUNK: u32 = 4_096;
-/// The first number that is walked to with all readers compared after each call.
+/// From this number on all readers are compared after each call.
 pub const SLOW: u32 = u32::MAX - 15;
 
 /// What is walked: the current cursor, or the current machine.

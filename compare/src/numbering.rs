@@ -1,5 +1,5 @@
-//! What the Rust says at the end of numbering, in the lines of the program `numbering`: what can be done with the last number, and what
-//! is said once every number is spent.
+//! What the Rust says at the end of numbering, in the lines of the program `test_numbering`: first what can be done with the last
+//! number, then what is said once every number is spent.
 //!
 //! A fresh cursor and a fresh machine walk there with a marker for each of the 2^32 numbers, each in a thread of its own.
 
@@ -31,14 +31,14 @@ pub fn say() {
     spent_timer_intents(&machines.spent);
 }
 
-/// Where the walk stands with one number left and with none, and how many markers were accepted.
+/// The walked value with one number left and with none, and how many markers were accepted.
 struct Walked {
     before: RustSide,
     spent: RustSide,
     markers: u64,
 }
 
-/// A fresh one, the start, and a marker for each number as long as they are accepted.
+/// Walks from a fresh value: the start, then a marker for each number as long as they are accepted.
 fn walk(fresh: Call, takes: impl Fn(&mut RustSide, RecordRef<'static>) -> Taken) -> Walked {
     let mut side = RustSide::new();
     side.answer(&fresh);
@@ -105,7 +105,8 @@ fn last_of_cursor(cursor: &RustSide) {
     );
 }
 
-/// The Rust's cursor does not lend its allocator: one that goes on after the number before the last is made, and must be the same.
+/// The Rust's cursor does not lend its allocator. So an allocator is made that resumes after the number before the last. Its
+/// text must stand in the cursor's text.
 fn last_of_allocator(cursor: &RustSide) {
     let mut side = RustSide::new();
     side.answer(&Call::Resume {

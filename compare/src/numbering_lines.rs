@@ -1,4 +1,4 @@
-//! The lines of the program `numbering`: a label, an answer in numbers, then the whole cursor or machine.
+//! The lines of the program `test_numbering`: a label, an answer in numbers, then the whole cursor or machine.
 
 use waymaker_core::ReplayMachine;
 
@@ -7,7 +7,7 @@ use crate::ffi::Told;
 use crate::rust_side::{Plain, RustSide};
 use crate::unread::Unread;
 
-/// Makes the call on a copy, says it, and returns the copy.
+/// Makes the call on a copy, prints its line, and returns the copy.
 pub fn after(label: &str, side: &RustSide, call: Call) -> RustSide {
     let mut side = side.copy();
     match side.answer(&call) {

@@ -1,4 +1,4 @@
-//! Records to feed a cursor.
+//! Records to give to a cursor.
 
 use crate::calls::CursorRead;
 use crate::ffi::RecordNumbers;
@@ -16,8 +16,8 @@ fn has_body(kind: u8) -> bool {
     matches!(kind, 1 | 3 | 4 | 7 | 8)
 }
 
-/// The number that a record must have where one is open or offered.
-/// Where none is left, the last one stands in, and every number is wrong.
+/// The number that is open or offered, which a record must have. Where no number is left, every
+/// number is wrong, and the last one is given.
 pub fn right_number(cursor: &CursorRead) -> u32 {
     let number = if cursor.pending.number == 1 {
         cursor.pending.b
@@ -40,7 +40,7 @@ pub fn wrong_numbers(right: u32) -> Vec<u32> {
     wrong
 }
 
-/// The kinds that may follow where the cursor stands.
+/// The kinds that may follow at the cursor's position.
 pub fn legal_kinds(cursor: &CursorRead) -> &'static [u8] {
     match cursor.position.number {
         0 => &[1],
@@ -75,7 +75,7 @@ pub fn plain(kind: u8, s: u32) -> RecordNumbers {
     }
 }
 
-/// A record with fields at random, those that its kind does not use too.
+/// A record with fields at random, also those that its kind does not use.
 pub fn at_random(random: &mut Random, kind: u8, s: u32) -> RecordNumbers {
     let mut record = RecordNumbers {
         kind,

@@ -1,6 +1,6 @@
-//! Numbers that name nothing: every export that is given one refuses with 60 and gives back
-//! the state that it was given; with every number listed none refuses so. The Rust has no such
-//! numbers: what is listed stands here a second time, apart from the proved code.
+//! Numbers that name nothing. Every export that is given one refuses with 60 and gives back
+//! the state that it was given. Where every number is listed, no export answers 60. The Rust
+//! has no such numbers, so the lists stand here a second time, apart from the proved code.
 
 use std::ops::RangeInclusive;
 
@@ -9,7 +9,7 @@ use crate::both::Both;
 use crate::ffi::*;
 use crate::random::Random;
 
-/// The numbers of every call, and those among them that are lists: one byte each.
+/// The numbers that calls are given. Those that must be listed are one byte each.
 #[derive(Clone, Copy, PartialEq, Eq, Debug, Default)]
 struct Given {
     ids: IdsNumbers,
@@ -70,7 +70,7 @@ pub fn run(settings: &Settings, both: &mut Both) {
     }
 }
 
-/// Every value of each listed number, all else listed.
+/// Every value of each such number in turn, while all others are listed.
 fn each_in_turn(given: Given, both: &mut Both) {
     for (field, _) in LISTED {
         for value in 0..=255 {
@@ -81,7 +81,7 @@ fn each_in_turn(given: Given, both: &mut Both) {
     }
 }
 
-/// Numbers that all name something; those that are no list are any.
+/// Numbers that all name something; numbers without a list have any value.
 fn listed(random: &mut Random) -> Given {
     let mut given = Given {
         ids: ids(random),
@@ -167,7 +167,7 @@ fn names_cursor(cursor: &CursorNumbers) -> bool {
     cursor.ids.offers <= 1 && position
 }
 
-/// Every export that takes a listed number, held to what these name; how many there were.
+/// Checks every export that takes such a number, and returns how many there were.
 fn every_export(given: &Given) -> u64 {
     readers(given) + timers(given) + calls(given)
 }
@@ -181,7 +181,7 @@ const REFUSED: Told = Told {
     e: 0,
 };
 
-/// The answer is 60 with no values exactly where something is not named.
+/// The answer must be 60 with no values exactly where a number names nothing.
 fn held(given: &Given, names: bool, answers: &[Told]) -> u64 {
     for answer in answers {
         let right = if names {
@@ -264,7 +264,7 @@ fn timers(given: &Given) -> u64 {
         + held(given, given.names_spec() && given.names_board(), &on_board)
 }
 
-/// The calls with a next state: a refusal gives back the one that it was given.
+/// The calls with a next state: a refusal gives back the state that it was given.
 fn calls(given: &Given) -> u64 {
     let Given {
         ids,

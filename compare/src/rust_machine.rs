@@ -55,8 +55,8 @@ pub fn read(machine: &ReplayMachine) -> MachineRead {
     }
 }
 
-/// The number that is open, or that an effect at the end of history would have.
-/// Where there is none, the last one stands in. The machine may change: it is a copy.
+/// The number that is open, or that an effect at the end of history would have, or the last
+/// number where there is none. The machine may change, so a copy is passed.
 pub fn number(machine: &mut ReplayMachine) -> u32 {
     if let Some(effect) = machine.pending() {
         return effect.id.seq.0;

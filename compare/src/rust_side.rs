@@ -19,7 +19,7 @@ pub trait Plain: Sized {
     /// A second value, equal to this one.
     fn copy(&self) -> Self {
         const { assert!(!std::mem::needs_drop::<Self>()) };
-        // SAFETY: of plain numbers the same bytes are a valid value of their own.
+        // SAFETY: the value is plain numbers, so a copy of its bytes is a valid value too.
         unsafe { std::ptr::read(self) }
     }
 }
@@ -133,7 +133,7 @@ impl RustSide {
         rust_machine::read(&self.machine)
     }
 
-    /// The number that a record for the machine must have; where none is, the last one.
+    /// The number that a record for the machine must have; the last number where there is none.
     pub fn machine_number(&self) -> u32 {
         let mut probe = self.machine.copy();
         rust_machine::number(&mut probe)

@@ -17,7 +17,7 @@ pub fn run(settings: &Settings, both: &mut Both) {
     }
 }
 
-/// All five calls, around the number that is open or offered.
+/// All five calls, with numbers around the one that is open or offered.
 pub fn alphabet(rust: &RustSide) -> Vec<Call> {
     let right = rust.machine_number();
     let mut calls = Vec::with_capacity(256);
@@ -75,7 +75,7 @@ fn advances(right: u32) -> Vec<RecordNumbers> {
     records
 }
 
-/// What may resolve an open effect or timer, and what may not.
+/// Records that may resolve an open effect or timer, and records that may not.
 fn outcomes(right: u32) -> Vec<RecordNumbers> {
     [all_kinds(right), wrong(right, &[3, 4, 6])].concat()
 }
@@ -119,8 +119,8 @@ fn intents(calls: &mut Vec<Call>, right: u32) {
     }));
 }
 
-/// Effects that differ from `REQUEST` in each way and in two ways, and one that does not
-/// differ in the bits that are read.
+/// Effects that differ from `REQUEST` in one way and in two ways, and one that differs only
+/// in bits that are not read.
 fn effects(right: u32) -> Vec<RecordNumbers> {
     let same = plain(2, right);
     let kind = RecordNumbers { a: 5, ..same };
@@ -155,7 +155,7 @@ fn timer_intents(calls: &mut Vec<Call>, right: u32, spec: SpecNumbers, capabilit
     calls.extend(with_ends(records).into_iter().map(of));
 }
 
-/// Timers that match the spec, and that differ in each way and in two ways.
+/// Timers that match the spec, and timers that differ in one way and in two ways.
 fn timers(right: u32, spec: SpecNumbers) -> Vec<RecordNumbers> {
     let same = RecordNumbers {
         clock: spec.clock,

@@ -58,7 +58,7 @@ fn of_spec(both: &mut Both, spec: SpecNumbers) {
     }
 }
 
-/// The boundary values, and those around the arming, the deadline and their sum.
+/// The boundary values, and values around the armed time, the deadline and their sum.
 fn readings(deadline: u64, armed: u64) -> Vec<u64> {
     let mut readings = values::U64.to_vec();
     readings.extend(around(deadline));

@@ -1,4 +1,4 @@
-//! What a machine of the Rust holds and no reader of it shows, read from its text.
+//! What the Rust's machine holds and none of its readers shows, taken from its text.
 
 use waymaker_core::ReplayMachine;
 
@@ -21,7 +21,7 @@ impl Unread {
     }
 }
 
-/// What stands after the name, to the end of its struct.
+/// The text after the name, to the end of its struct.
 fn field<'a>(text: &'a str, name: &str) -> &'a str {
     let (_, rest) = text.split_once(name).expect("the value has that field");
     let (field, _) = rest.split_once(" }").expect("and its struct ends");

@@ -52,5 +52,5 @@ pub const U64: [u64; 26] = [
     0xFFFF_FFFF_FFFF_FFFF,
 ];
 
-/// A few runs, for the parts that need not have them all.
+/// A few runs, for the parts that do not need all of them.
 pub const RUNS: [u64; 3] = [0, 7, u64::MAX];

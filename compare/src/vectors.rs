@@ -23,7 +23,7 @@ use crate::whole::Changed;
 /// The most bytes of the file of calls.
 const LIMIT: usize = 64_000;
 const SEED: u64 = 2_026;
-/// Not 0, so that a new cursor or machine of this run is not what stands at the start.
+/// Not 0, so that a new cursor or machine of this run differs from the one at the start.
 const RUN: u64 = 7;
 /// The number of the position that a cursor does not leave.
 const HALTED: u64 = 6;
@@ -59,7 +59,7 @@ pub fn write(folder: &str) -> io::Result<()> {
             _ => line(&mut answers, &answer),
         }
         if let Call::Advance(_) = call {
-            // The proved cursor is advanced by value, and once more over a lent one.
+            // The proved cursor is advanced by value, and a second one over a lent cursor.
             line(&mut answers, &answer);
         }
     }
@@ -73,8 +73,8 @@ fn line(text: &mut String, line: &impl std::fmt::Display) {
     writeln!(text, "{line}").expect("a string takes all text");
 }
 
-/// The calls. The first ones use what stands at the start: an allocator, a cursor and a
-/// machine.
+/// The calls. The first ones use the allocator, the cursor and the machine that every list
+/// begins with.
 fn sample() -> Vec<Call> {
     let start = plain(1, 0);
     let mut calls = vec![

@@ -1,4 +1,4 @@
-//! Every sequence of calls over an alphabet, from where both sides stand up to a length.
+//! Every sequence of calls over an alphabet, up to a length, from the present states of both sides.
 
 use std::collections::HashMap;
 
@@ -7,10 +7,10 @@ use crate::calls::Call;
 use crate::proved_side::ProvedSide;
 use crate::rust_side::{Plain, RustSide};
 
-/// The calls that are made where the Rust stands so.
+/// The calls that are made in this state of the Rust.
 type Alphabet = fn(&RustSide) -> Vec<Call>;
 
-/// Every sequence of up to `depth` calls, with nothing left out: from each place, however often it is reached.
+/// Every sequence of up to `depth` calls, with nothing left out: from each state, however often it is reached.
 pub fn walk_each(both: &mut Both, depth: u32, alphabet: Alphabet) {
     if depth == 0 {
         return;
@@ -23,8 +23,8 @@ pub fn walk_each(both: &mut Both, depth: u32, alphabet: Alphabet) {
     }
 }
 
-/// Every sequence of up to `depth` calls, but nothing twice from the same place: what comes after a call depends on where
-/// it leaves both sides. Where they stand as they stood before, with as many calls still to come, it is compared already.
+/// Every sequence of up to `depth` calls, but nothing twice from the same two states: the answers depend on the states alone.
+/// Where both sides are in states that came before, with as many calls still to come, these calls are compared already.
 pub fn walk(both: &mut Both, depth: u32, alphabet: Alphabet) {
     let followed = HashMap::new();
     Walk { alphabet, followed }.go(both, depth);
@@ -32,7 +32,7 @@ pub fn walk(both: &mut Both, depth: u32, alphabet: Alphabet) {
 
 struct Walk {
     alphabet: Alphabet,
-    /// Where both sides stood, and how many calls in a row were made from there.
+    /// The states of both sides, and how many calls in a row were made from them.
     followed: HashMap<ProvedSide, (RustSide, u32)>,
 }
 
@@ -49,7 +49,7 @@ impl Walk {
         }
     }
 
-    /// Says whether this many calls still have to be made from here, and remembers that they are.
+    /// Whether this many calls still have to be made from here. If so, remembers that they are made.
     fn is_new(&mut self, both: &Both, depth: u32) -> bool {
         let before = self.followed.get(&both.proved);
         if before.is_some_and(|(rust, calls)| *rust == both.rust && *calls >= depth) {

@@ -2,8 +2,8 @@
 //!
 //! The readers do not show all that a value holds: not the phase of a halted machine, nor the number that a machine offers. The Rust's
 //! fields are private, but its values derive `Debug`, whose text has every field, and `PartialEq`. So the text of the Rust's value must be
-//! the one that the proved side's numbers give. It is made once for each set of numbers: where the same numbers come again, the Rust's value
-//! must be equal to the one that they were found to be.
+//! the text that the proved side's numbers give. Text is slow, so it is compared once for each set of numbers. Where the same numbers
+//! come again, the Rust's value must equal the value that had this text.
 
 use std::fmt::{self, Debug, Write};
 use std::hash::{DefaultHasher, Hash, Hasher};
@@ -59,7 +59,7 @@ impl Whole {
         }
     }
 
-    /// Whether both sides hold the same value; else what each holds.
+    /// Ok where both sides hold the same value; else what each holds.
     pub fn same(
         &mut self,
         changed: Changed,
@@ -75,7 +75,7 @@ impl Whole {
     }
 }
 
-/// Numbers of the proved side, each with the value of the Rust that they were found to be.
+/// Numbers of the proved side, each set with the value of the Rust that had the same text.
 struct Pairs<N, V> {
     found: Vec<Option<(N, V)>>,
     text: String,
@@ -104,7 +104,7 @@ impl<N: Numbers + Copy + Eq + Debug, V: Plain + PartialEq + Debug> Pairs<N, V> {
         Ok(())
     }
 
-    /// Whether the value's text is the one that the numbers give.
+    /// Whether the numbers give the value's text.
     fn is_text_of(&mut self, numbers: &N, value: &V) -> bool {
         self.text.clear();
         numbers
@@ -115,7 +115,7 @@ impl<N: Numbers + Copy + Eq + Debug, V: Plain + PartialEq + Debug> Pairs<N, V> {
     }
 }
 
-/// What is left of a text that is to be written next. Any other text is refused.
+/// The rest of an expected text. Writing anything else to it fails.
 struct Left<'a>(&'a str);
 
 impl Write for Left<'_> {
@@ -127,8 +127,8 @@ impl Write for Left<'_> {
 
 /// A state of the proved side in numbers.
 trait Numbers: Hash {
-    /// The text of the Rust's value with these numbers. Numbers that stand for no value, or that the value does not hold, are told in
-    /// words that no value has.
+    /// Writes the text of the Rust's value with these numbers. For numbers that name no value, or that the value does not hold, it
+    /// writes words that no value's text has.
     fn write(&self, out: &mut String) -> fmt::Result;
 
     fn spread(&self) -> u64 {
@@ -174,7 +174,7 @@ impl Numbers for CursorNumbers {
     }
 }
 
-// Each writes the state, and returns the numbers that the state holds.
+// Each of these writes the state, and returns the numbers that the state holds.
 
 fn write_position(
     position: u8,

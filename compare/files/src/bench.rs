@@ -1,7 +1,7 @@
 //! How long the proved code and the plain Rust take, side by side in one run.
 //!
-//! Both sides are asked through a call that is not inlined where it is timed, with the same
-//! arguments, and give the same numbers; each answer is consumed.
+//! Both sides are called with the same arguments, by a call that is not inlined where it is
+//! timed, and give the same numbers. Each answer is used, so that no call is optimised away.
 
 use std::fs;
 use std::hint::black_box;
@@ -17,13 +17,13 @@ use crate::reader::{ENTRY, Entry, Format, HEADER, Step, read_journal};
 use crate::resume::{handover, verdict};
 use crate::writing;
 
-/// How often the two sides are timed, by turns; medians are told.
+/// How often the two sides are timed, by turns; the results are medians.
 const ROUNDS: usize = 501;
-/// Each time a side is called until about so many nanoseconds have passed.
+/// In each round a side is called for about so many nanoseconds.
 const NANOSECONDS: f64 = 200_000.0;
-/// The proved code takes at most so many times as long as the Rust,
+/// The goal: the proved code takes at most so many times as long as the Rust.
 const MOST_RATIO: f64 = 1.0;
-/// and eight times the records at most so many times as long.
+/// The goal: a verdict on eight times the records takes at most so many times as long.
 const MOST_GROWTH: f64 = 8.8;
 
 /// One thing that is timed: what it is called, and how each side does it.
@@ -89,7 +89,7 @@ pub fn run() {
     println!("goals not met: {unmet}");
 }
 
-/// Makes so many calls of one side of a case, for a counter of instructions.
+/// Makes so many calls of one side of the case whose name begins so, for a counter of instructions.
 pub fn calls(side: &str, part: &str, calls: u64) -> Result<(), String> {
     let all = AllFiles::new();
     let case = cases(&all)
@@ -166,7 +166,7 @@ struct Files {
 }
 
 impl Files {
-    /// Outcomes have this length.
+    /// The length of each outcome.
     fn new(records: usize, step: fn(usize) -> Step<'static>, outcome: usize) -> Files {
         let stop = (records - 2) / 2;
         let steps: Vec<Step> = (0..records).map(step).collect();
@@ -284,7 +284,7 @@ fn walking_case(format: Format, files: &Files) -> Case<'_> {
     )
 }
 
-// The plain Rust of the library's two exports, called as they are: through a symbol.
+// The plain Rust of the library's two exports, called through a symbol as these are.
 
 #[inline(never)]
 fn rust_next_record(file: &[u8], entry: u64, body: u64) -> EntryNumbers {
@@ -303,7 +303,7 @@ fn named(format: Format, files: &Files) -> (&'static str, &[u8]) {
     }
 }
 
-/// From the first entry to the last, each by a call of its own: the sum of the kinds.
+/// Walks from the first entry to the last, each by a call of its own, and sums the kinds.
 fn walk(file: &[u8], next: impl Fn(u64, u64) -> Option<EntryNumbers>) -> u64 {
     let count = u64::from(u16::from_le_bytes([file[2], file[3]]));
     let (mut entry, mut body) = (0, HEADER as u64 + ENTRY as u64 * count);
@@ -318,7 +318,7 @@ fn walk(file: &[u8], next: impl Fn(u64, u64) -> Option<EntryNumbers>) -> u64 {
     kinds
 }
 
-/// The Rust's own way to walk: an iterator, which is inlined. A call of a library is not.
+/// The Rust walks by its own iterator, which is inlined; a call of a library is not.
 fn iterating_case(files: &Files) -> Case<'_> {
     let journal = &files.journal[..];
     Case::new(
@@ -371,8 +371,8 @@ fn handover_case(files: &Files, boundary: u64) -> Case<'_> {
     )
 }
 
-/// Times two calls by turns: the median of each, and of the second's ratio to the first in
-/// a turn.
+/// Times two calls by turns. Returns the median of each, and the median of the ratios of the
+/// second to the first.
 fn by_turns(first: &dyn Fn(), second: &dyn Fn()) -> (f64, f64, f64) {
     let (first_calls, second_calls) = (calls_for(first), calls_for(second));
     let (mut firsts, mut seconds, mut ratios) = (Vec::new(), Vec::new(), Vec::new());
@@ -385,7 +385,7 @@ fn by_turns(first: &dyn Fn(), second: &dyn Fn()) -> (f64, f64, f64) {
     (median(firsts), median(seconds), median(ratios))
 }
 
-/// How many calls take the wanted time.
+/// How many calls fill one round.
 fn calls_for(call: &dyn Fn()) -> u64 {
     time(call, 10);
     (NANOSECONDS / time(call, 10).max(1.0)) as u64 + 1

@@ -20,7 +20,7 @@ pub struct Compared {
 }
 
 impl Compared {
-    /// Compares what is said of one file, and of each of its entries if it is readable.
+    /// Compares the answers about one file, and about each of its entries if it is readable.
     pub fn file(&mut self, format: Format, file: &[u8]) {
         let rust = numbers::read(format, file);
         self.files += 1;
@@ -72,7 +72,7 @@ impl Compared {
     }
 }
 
-/// The bytes that say what was read.
+/// Writes what was read as bytes again.
 fn rewritten(format: Format, file: &[u8], head: u64, entries: &[EntryNumbers]) -> Vec<u8> {
     let mut again = File::new(format, head);
     for numbers in entries {

@@ -111,14 +111,14 @@ fn codes_and_counts(files: &mut Vec<Vec<u8>>, format: Format) {
     for count in [0, 1, 2, 1_023, 1_024] {
         files.push(table(format, vec![right(format); count]).bytes());
     }
-    // 1,025 entries and their count; then counts that the file does not have.
+    // 1,025 entries with the right count; then counts that do not fit the file.
     files.push(table(format, vec![right(format); 1_025]).bytes());
     for count in [0, 2, 1_023, 1_024, 1_025, 1_280, 32_768, u16::MAX] {
         let mut file = good.bytes();
         file[2..4].copy_from_slice(&u16::to_le_bytes(count));
         files.push(file);
     }
-    // The wrong code and the count too; the count and the head too.
+    // Code, count and head wrong; then count and head alone.
     let mut file = good.bytes();
     (file[0], file[3], file[5]) = (7, 8, 1);
     files.push(file.clone());
@@ -126,7 +126,7 @@ fn codes_and_counts(files: &mut Vec<Vec<u8>>, format: Format) {
     files.push(file);
 }
 
-/// Bytes 4 to 11, and 15 before 16.
+/// Wrong bytes 4 to 11, also in a file that fails 16: 15 comes first.
 fn heads(files: &mut Vec<Vec<u8>>, format: Format) {
     let good = table(format, vec![right(format)]);
     for head in [0, 1, 2, 3, 255, u64::MAX] {
@@ -258,7 +258,7 @@ fn orders(files: &mut Vec<Vec<u8>>, format: Format) {
     }
 }
 
-/// Sums of body lengths that are not the header's, also but for 2^16.
+/// Sums of body lengths that are not the header's, among them some that differ by 2^16.
 fn sums(files: &mut Vec<Vec<u8>>, format: Format) {
     let kind = kinds(format)[0];
     for lengths in [

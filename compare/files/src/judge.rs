@@ -1,5 +1,5 @@
-//! Holds a verdict and its handovers against document 01's definition of histories, which
-//! knows nothing of the machine.
+//! Checks a verdict and its handovers against document 01's definition of histories, which
+//! does not use the machine.
 
 use waymaker_core::{ClockCapability, RecordRef, TimerSpec};
 
@@ -23,8 +23,8 @@ impl<'a> Judge<'a> {
         }
     }
 
-    /// What the definition has against the verdict on these records. Each answer's condition
-    /// shuts out the others', so a verdict whose own condition holds is the only right one.
+    /// Why the verdict on these records is wrong by the definition, if it is. No two answers'
+    /// conditions hold together, so a verdict whose own condition holds is the only right one.
     pub fn contradiction(
         &self,
         records: &[RecordRef<'_>],
@@ -117,8 +117,8 @@ impl<'a> Judge<'a> {
         (!whole || !barred).then_some("refused after the last record, and not barred")
     }
 
-    /// The first of these boundaries for which an accepted pair hands over something else
-    /// than the definition names.
+    /// The first of these boundaries at which an accepted pair hands over something else than
+    /// the definition names.
     pub fn wrong_handover(
         &self,
         (journal, plan): (&[u8], &[u8]),

@@ -66,7 +66,7 @@ fn counts(compared: &mut Compared, file: &mut [u8]) {
     }
 }
 
-/// The body bytes of the header: right, near, and right but for a sum that wraps.
+/// The body bytes of the header: right, near, and right only in a sum that wraps.
 fn body_bytes(compared: &mut Compared, file: &mut [u8], count: u16) {
     let right = (file.len() as u32).wrapping_sub((HEADER + ENTRY * usize::from(count)) as u32);
     let near = [right.wrapping_sub(1), right.wrapping_add(1)];
@@ -79,7 +79,7 @@ fn body_bytes(compared: &mut Compared, file: &mut [u8], count: u16) {
     }
 }
 
-/// Writes these bytes there, as far as the file goes.
+/// Writes these bytes at that place, as far as the file goes.
 pub fn set(file: &mut [u8], at: usize, bytes: &[u8]) {
     for (place, byte) in bytes.iter().enumerate() {
         if let Some(target) = file.get_mut(at + place) {
@@ -126,7 +126,7 @@ fn field_values(kind: u8, field: usize) -> Vec<u64> {
     values
 }
 
-/// The entry alone and among right ones, with its body if it is short, and without.
+/// The entry alone and among right ones, with its body (if that is short) and without.
 fn one_entry(compared: &mut Compared, format: Format, mut entry: Entry) {
     let right = empty_entry(format, 2);
     for before in [0, 1, 2] {
@@ -147,8 +147,8 @@ fn one_entry(compared: &mut Compared, format: Format, mut entry: Entry) {
     }
 }
 
-/// Three entries, each right, of a wrong kind, with a wrong field or both, and the body
-/// bytes right or wrong: which check comes first.
+/// Three entries, each right, of a wrong kind, with a wrong field or both, and body bytes
+/// right or wrong: these show which check comes first.
 fn orders(compared: &mut Compared) {
     for format in FORMATS {
         let right = empty_entry(format, 2);
@@ -188,8 +188,7 @@ fn places(compared: &mut Compared) {
     }
 }
 
-/// Body lengths whose sum is the header's body bytes, or is not but would be in 15, 16 or 8
-/// bits.
+/// Body lengths whose sum is the header's body bytes, or would be only in 15, 16 or 8 bits.
 fn sums(compared: &mut Compared) {
     let lengths: [&[u64]; 9] = [
         &[65_535, 1],

@@ -82,8 +82,8 @@ pub fn with_body(random: &mut Random, kind: u8, most_body: usize) -> Item {
     }
 }
 
-/// `RunStarted`, the boundaries of the first `stop` steps, and then nothing, the next step's
-/// opener or a terminal record.
+/// `RunStarted`, the boundaries of the first `stop` steps, then an ending: nothing, the next
+/// step's opener or a terminal record.
 pub fn history(
     random: &mut Random,
     steps: &[Step<'_>],
@@ -142,7 +142,7 @@ fn any_item(random: &mut Random, at: usize) -> Item {
     (entry, body)
 }
 
-/// Changes a field that the kind has, and now and then one that it has not.
+/// Changes a field that the kind has, or now and then one that it does not have.
 fn one_field(random: &mut Random, entry: &mut Entry) {
     let fields: &[u64] = match entry.kind {
         2 => &[1, 3, 4],

@@ -14,7 +14,7 @@ use crate::writing;
 
 const SEED: u64 = 2_026;
 const RUN: u64 = 7;
-/// Pairs at random are added up to so many bytes of text.
+/// Pairs at random are added until the list has so many bytes.
 const FILLED: usize = 59_500;
 
 type Bytes = (Vec<u8>, Vec<u8>);
@@ -31,7 +31,7 @@ pub fn list() -> Vec<Bytes> {
     missing(&mut pairs);
     unreadable(&mut pairs);
     endings(&mut pairs, ClockCapability::Persistent, 0..=5);
-    // The step that such a board does not admit has the number 3.
+    // A board with a boot clock only does not admit step 3.
     endings(&mut pairs, ClockCapability::BootOnly, 3..=3);
     beyond(&mut pairs);
     barred(&mut pairs);
@@ -142,8 +142,9 @@ fn missing(pairs: &mut Vec<Bytes>) {
     pairs.push((plan, journal));
 }
 
-/// Of the stored list of files one for each number and place, up to three places, with the
-/// worked other file; the second and third journals with a plan that is unreadable too.
+/// From the stored list of files one for each number and place, up to three places, paired
+/// with the other file of 01's worked pair. The second and third journals have an unreadable
+/// plan too.
 fn unreadable(pairs: &mut Vec<Bytes>) {
     let mut seen: Vec<Refused> = Vec::new();
     for (format, file) in damaged_list::list() {
@@ -198,7 +199,7 @@ fn beyond(pairs: &mut Vec<Bytes>) {
     }
 }
 
-/// A timer that the board does not admit, with nothing recorded of it: the first step, the
+/// A timer that the board does not admit and that has no record: as the first step, the
 /// second, the last of three.
 fn barred(pairs: &mut Vec<Bytes>) {
     let [effect, boot, _, persistent, _] = steps();
@@ -220,7 +221,7 @@ fn barred(pairs: &mut Vec<Bytes>) {
     }
 }
 
-/// Every kind of record in the place of each, and after the last one and after the end.
+/// Every kind of record in the place of each record, after the last one and after the end.
 fn one_wrong_record(pairs: &mut Vec<Bytes>) {
     let steps = &steps()[..2];
     let mut whole = before(steps, 2);
@@ -244,8 +245,8 @@ fn one_wrong_record(pairs: &mut Vec<Bytes>) {
     push(pairs, ClockCapability::Persistent, steps, &after);
 }
 
-/// In the place of a step's opener: ones that differ from it in each way, and it with an
-/// outcome that has another number.
+/// In the place of a step's opener, openers that differ from it in each way; and the right
+/// opener with an outcome that has another number.
 fn wrong_fields(
     pairs: &mut Vec<Bytes>,
     capability: ClockCapability,
@@ -305,8 +306,8 @@ fn bodies(pairs: &mut Vec<Bytes>) {
     }
 }
 
-/// 1,024 records in 32,768 bytes, the last step open; fewer, the last of which does not fit;
-/// and a plan of 1,024 steps.
+/// 1,024 records in 32,768 bytes, the last step open; fewer records, of which the last does
+/// not fit; and a plan of 1,024 steps.
 fn longest(pairs: &mut Vec<Bytes>) {
     let step = effect(0, &[], 0);
     let steps = vec![step; 512];

@@ -9,7 +9,7 @@ use crate::reader::Format;
 use crate::resume::{Verdict, handover, verdict};
 use crate::text::items;
 
-/// Compares the proved verdict, where there is one, with this one.
+/// Compares the proved verdict, where the library has it, with this one.
 pub fn same_verdict(verdict: &Verdict, journal: impl FnOnce() -> Vec<u8>, plan: &[u8]) {
     if !proved::HAS_VERDICT {
         return;
@@ -23,7 +23,7 @@ pub fn same_verdict(verdict: &Verdict, journal: impl FnOnce() -> Vec<u8>, plan: 
     }
 }
 
-/// Compares the verdict and the handover of these boundaries, and gives the verdict.
+/// Compares the verdict and the handover of these boundaries, and returns the verdict.
 pub fn same_pair(journal: &[u8], plan: &[u8], boundaries: impl Iterator<Item = u64>) -> Verdict {
     let verdict = verdict(journal, plan);
     same_verdict(&verdict, || journal.to_vec(), plan);

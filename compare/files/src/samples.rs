@@ -24,7 +24,7 @@ pub fn kinds(format: Format) -> &'static [u8] {
     }
 }
 
-/// An entry of this kind with nothing in it, right in the format if the kind is.
+/// An entry of this kind with empty fields; it is right if the format has the kind.
 pub fn empty_entry(format: Format, kind: u8) -> Entry {
     let clock = u8::from(format == Format::Plan && kind == 5);
     Entry {
@@ -43,7 +43,7 @@ pub fn body_field(format: Format, entry: &mut Entry) -> Option<&mut u64> {
     }
 }
 
-/// Gives the entry a body of this length, if it has one; and its length then.
+/// Gives the entry a body of this length if its kind has one, and returns the body's length.
 pub fn set_body(format: Format, entry: &mut Entry, length: u64) -> u64 {
     let field = body_field(format, entry);
     field.map_or(0, |field| {

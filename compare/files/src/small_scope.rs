@@ -1,5 +1,5 @@
-//! Every list of records over a small alphabet, against every small plan: the verdict is held
-//! against the definition of histories, and the proved verdict against the verdict.
+//! Every list of records over a small alphabet, with every small plan. The plain verdict is
+//! checked against the definition of histories, and the proved verdict against the plain one.
 
 use waymaker_core::{
     ActivityKind, ClockCapability, ClockKind, EffectRequest, EffectSeq, GateId, RecordRef, RunId,
@@ -83,7 +83,7 @@ fn persistent(instant: u64) -> Step<'static> {
 }
 
 /// All nine kinds with these numbers: right and wrong activities, lengths, CRCs, clocks and
-/// deadlines. `free`: also with other values where a history leaves them free.
+/// deadlines. With `free` also other values of what a history leaves free.
 fn letters(numbers: &[u32], free: bool) -> Vec<RecordRef<'static>> {
     let mut letters = vec![
         started(3, &[]),
@@ -149,7 +149,7 @@ fn timers(letters: &mut Vec<RecordRef<'static>>, seq: EffectSeq, free: bool) {
     }
 }
 
-/// One plan, and the list of records at hand.
+/// One plan, and the present list of records.
 struct Scope {
     judge: Judge<'static>,
     plan: Vec<u8>,
@@ -202,7 +202,7 @@ impl Scope {
         }
     }
 
-    /// Holds the verdict on this list against the definition.
+    /// Checks the verdict on this list against the definition.
     fn check(&mut self) -> Verdict {
         self.lists += 1;
         let verdict = procedure(
@@ -221,7 +221,7 @@ impl Scope {
         verdict
     }
 
-    /// An accepted list as bytes: the same verdict, and what is handed over.
+    /// Writes an accepted list as bytes, and checks the verdict and the handover of these.
     fn check_handovers(&self, verdict: &Verdict, ending: Ending, stop: u64) {
         let journal = self.journal();
         let boundaries = || 0..=self.judge.steps.len() as u64 + 1;

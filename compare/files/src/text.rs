@@ -3,7 +3,7 @@
 
 use std::fmt::Write;
 
-/// The lengths of what is looked for to stand several times: a byte, an entry, a boundary.
+/// The lengths of which repeats are looked for: a byte, an entry, a boundary.
 const LENGTHS: [usize; 3] = [1, 24, 48];
 
 /// The items of a file.
@@ -41,8 +41,8 @@ fn item(text: &mut String, bytes: &[u8], times: usize) {
     }
 }
 
-/// What stands several times at the start of these bytes so that an item for it is shorter:
-/// its length, and how often. The one that covers most is taken.
+/// A repeat at the start of these bytes that makes the text shorter: its length, and how
+/// often. Of several repeats the one that saves most is taken.
 fn repeated(bytes: &[u8]) -> Option<(usize, usize)> {
     LENGTHS
         .into_iter()

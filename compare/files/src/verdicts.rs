@@ -16,7 +16,7 @@ use crate::resume::Verdict;
 use crate::samples;
 use crate::writing;
 
-/// Plans up to so many steps are held against the definition too.
+/// Pairs whose plan has up to so many steps are also checked against the definition.
 const JUDGED: u64 = 40;
 
 pub fn run(settings: &Settings) -> String {
@@ -76,7 +76,7 @@ impl Compared {
         }
     }
 
-    /// Holds the answers against the definition, where both files are readable.
+    /// Checks the answers against the definition, where both files are readable.
     fn judge(
         &mut self,
         journal: &[u8],
@@ -125,7 +125,7 @@ fn answer(verdict: &Verdict) -> String {
     }
 }
 
-/// Some bits or bytes, the length, or the whole file.
+/// Changes some bits or bytes, the length, or the whole file.
 fn change_bytes(random: &mut Random, file: &mut Vec<u8>) {
     let at = random.below(file.len() as u64) as usize;
     match random.below(7) {
