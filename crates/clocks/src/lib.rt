@@ -25,7 +25,7 @@ pub enum TimerSpecOption {
 }
 
 impl TimerSpec {
-    // The clock that this spec is stated against.
+    // The clock that measures this spec.
     pub fn clock_kind(self) -> ClockKind
         ensures { λ r. ⌜ r ≡ specClock self ⌝ }
     {
@@ -104,7 +104,7 @@ impl ClockCapability {
         ClockCapabilityOption::None
     }
 
-    // Whether a board can time a spec.
+    // Whether a board with these clocks can time a spec.
     pub fn admits(self, spec: TimerSpec) -> AdmitsResult
         ensures { λ r. ⌜ r ≡ admission self spec ⌝ }
     {
@@ -118,7 +118,7 @@ impl ClockCapability {
     }
 }
 
-// An armed deadline: its spec, and the reading it was armed at.
+// An armed timer: its spec, and the reading of its clock when it was armed.
 pub struct Timer {
     pub spec: TimerSpec,
     pub armed_at: u64,
