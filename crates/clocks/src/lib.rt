@@ -2,6 +2,9 @@
 //
 // Owns: TimerSpec, ClockCapability, Timer, Deadline. Must not own: a clock; every reading is an argument.
 // Defends: a persistent deadline is refused where there is no persistent clock, never read as a boot deadline.
+//
+// Why two specs: a boot clock returns to 0 after a reset and cannot say how long the power was off; a persistent clock can. So after
+// a reset a boot timer counts from the smaller reading, and a persistent one from the reading that was recorded.
 ghost use mathlib.Core.Path.{_≡_};
 ghost use Rattle.clocks.specs.Specs.{specClock, specDeadline, rearmedAt, recordedSpec, capabilityOf};
 ghost use Rattle.clocks.specs.Timers.{admission, armed, lackingOf, evaluation};
