@@ -2,6 +2,9 @@
 //
 // Owns: TimerSpec, ClockCapability, Timer, Deadline. Must not own: a clock; every reading is an argument.
 // Defends: a persistent deadline is refused where there is no persistent clock, never read as a boot deadline.
+//
+// Why two specs: a boot clock returns to 0 after a reset and cannot say how long the power was off; a persistent clock can. So after
+// a reset a boot timer counts from the smaller reading, and a persistent one from the reading that was recorded.
 ghost use mathlib.Core.Path.{_≡_};
 ghost use Rattle.clocks.specs.Specs.{specClock, specDeadline, rearmedAt, recordedSpec, capabilityOf};
 ghost use Rattle.clocks.specs.Timers.{admission, armed, lackingOf, evaluation};
@@ -25,7 +28,7 @@ pub enum TimerSpecOption {
 }
 
 impl TimerSpec {
-    // The clock that this spec is stated against.
+    // The clock that measures this spec.
     pub fn clock_kind(self) -> ClockKind
         ensures { λ r. ⌜ r ≡ specClock self ⌝ }
     {
@@ -104,7 +107,7 @@ impl ClockCapability {
         ClockCapabilityOption::None
     }
 
-    // Whether a board can time a spec.
+    // Whether a board with these clocks can time a spec.
     pub fn admits(self, spec: TimerSpec) -> AdmitsResult
         ensures { λ r. ⌜ r ≡ admission self spec ⌝ }
     {
@@ -118,7 +121,7 @@ impl ClockCapability {
     }
 }
 
-// An armed deadline: its spec, and the reading it was armed at.
+// An armed timer: its spec, and the reading of its clock when it was armed.
 pub struct Timer {
     pub spec: TimerSpec,
     pub armed_at: u64,

@@ -6,10 +6,14 @@ use Rattle.answer_numbers.specs.CursorTold.{pendingTimerOptionTold}
 use Rattle.answer_numbers.proofs.pending_timer_told.Statement.{statement}
 use Rattle.answer_numbers.proofs.pending_timer_told.Tie as tie
 
+returns : tie.Need-returns
+returns c = by-arm pendingTimerOptionTold (c .before .before .pending .given .1) (c .open-timer .ensures)
+
+returns-2 : tie.Need-returns-2
+returns-2 c = by-arm pendingTimerOptionTold (c .before .enum-told .given .1) (c .new .ensures)
+
 pub pending-timer-told-spec : {M : Type 1} → statement M
 pending-timer-told-spec =
     let shown = tie.spec
-    (λ c. search needs) (λ c κs. search needs) (λ c. search needs) (λ c κs. search needs)
-    (λ c. by-arm pendingTimerOptionTold (c .before .before .pending .given .1) (c .open-timer .ensures))
-    (λ c. by-arm pendingTimerOptionTold (c .before .enum-told .given .1) (c .new .ensures)) in
+    (λ c. search needs) (λ c κs. search needs) (λ c. search needs) (λ c κs. search needs) returns returns-2 in
     tie.close shown

@@ -6,10 +6,14 @@ use Rattle.answer_numbers.specs.MachineTold.{resolveTold}
 use Rattle.answer_numbers.proofs.machines.resolve_told.Statement.{statement}
 use Rattle.answer_numbers.proofs.machines.resolve_told.Tie as tie
 
+returns : tie.Need-returns
+returns c = by-arm resolveTold (c .before .before .resolve .given .1) (c .replayed .ensures)
+
+returns-2 : tie.Need-returns-2
+returns-2 c = by-arm resolveTold (c .before .before .resolve2 .given .1) (c .boundary .ensures)
+
 pub resolve-told-spec : {M : Type 1} → statement M
 resolve-told-spec =
     let shown = tie.spec
-    (λ c. search needs) (λ c κs. search needs) (λ c. search needs) (λ c κs. search needs)
-    (λ c. by-arm resolveTold (c .before .before .resolve .given .1) (c .replayed .ensures))
-    (λ c. by-arm resolveTold (c .before .before .resolve2 .given .1) (c .boundary .ensures)) in
+    (λ c. search needs) (λ c κs. search needs) (λ c. search needs) (λ c κs. search needs) returns returns-2 in
     tie.close shown

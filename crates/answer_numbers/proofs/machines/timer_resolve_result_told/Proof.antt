@@ -6,10 +6,14 @@ use Rattle.answer_numbers.specs.MachineTold.{timerResolveResultTold}
 use Rattle.answer_numbers.proofs.machines.timer_resolve_result_told.Statement.{statement}
 use Rattle.answer_numbers.proofs.machines.timer_resolve_result_told.Tie as tie
 
+returns : tie.Need-returns
+returns c = by-arm timerResolveResultTold (c .before .before .result .given .1) (c .timer-resolve-told .ensures)
+
+returns-2 : tie.Need-returns-2
+returns-2 c = by-arm timerResolveResultTold (c .before .before .result2 .given .1) (c .told .ensures)
+
 pub timer-resolve-result-told-spec : {M : Type 1} → statement M
 timer-resolve-result-told-spec =
     let shown = tie.spec
-    (λ c. search needs) (λ c κs. search needs) (λ c. search needs) (λ c κs. search needs)
-    (λ c. by-arm timerResolveResultTold (c .before .before .result .given .1) (c .timer-resolve-told .ensures))
-    (λ c. by-arm timerResolveResultTold (c .before .before .result2 .given .1) (c .told .ensures)) in
+    (λ c. search needs) (λ c κs. search needs) (λ c. search needs) (λ c κs. search needs) returns returns-2 in
     tie.close shown

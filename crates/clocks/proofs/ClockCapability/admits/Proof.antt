@@ -11,14 +11,20 @@ use Rattle.clocks.proofs.ClockCapability.admits.Statement.{statement}
 use Rattle.clocks.proofs.ClockCapability.admits.Tie as tie
 
 returns : tie.Need-returns
-returns c = by-arm (admission (c .before .before .args .self)) (c .enum-told .given .1) (rw (admits-boot (c .before .before .args .self)))
+returns c =
+    let self = c .before .before .args .self in
+    by-arm (admission self) (c .enum-told .given .1) (rw (admits-boot self))
 
 returns-2 : tie.Need-returns-2
-returns-2 c = by-arm (λ (capability : ClockCapability). admission capability (c .before .before .before .before .args .spec)) (c .enum-told3 .given .1)
+returns-2 c =
+    let spec = c .before .before .before .before .args .spec in
+    by-arm (λ (capability : ClockCapability). admission capability spec) (c .enum-told3 .given .1)
     (by-arm (admission ClockCapability.BootOnly) (c .before .before .enum-told2 .given .1) refl)
 
 returns-3 : tie.Need-returns-3
-returns-3 c = by-arm (λ (capability : ClockCapability). admission capability (c .before .before .before .before .args .spec)) (c .enum-told4 .given .1) refl
+returns-3 c =
+    let spec = c .before .before .before .before .args .spec in
+    by-arm (λ (capability : ClockCapability). admission capability spec) (c .enum-told4 .given .1) refl
 
 pub admits-spec : {M : Type 1} → statement M
 admits-spec =

@@ -7,10 +7,14 @@ use Rattle.clocks.proofs.DeadlineResult.told.Statement.{statement}
 use Rattle.clocks.proofs.DeadlineResult.told.Tie as tie
 
 returns : tie.Need-returns
-returns c = by-arm deadlineResultTold (c .before .before .before .before .self .given .1) (by-arm deadlineTold (c .before .enum-told .given .1) (c .new .ensures))
+returns c =
+    let accepted = c .before .before .before .before in
+    by-arm deadlineResultTold (accepted .self .given .1) (by-arm deadlineTold (c .before .enum-told .given .1) (c .new .ensures))
 
 returns-2 : tie.Need-returns-2
-returns-2 c = by-arm deadlineResultTold (c .before .before .before .before .before .self .given .1) (by-arm deadlineTold (c .before .before .deadline .given .1) (c .new2 .ensures))
+returns-2 c =
+    let accepted = c .before .before .before .before .before in
+    by-arm deadlineResultTold (accepted .self .given .1) (by-arm deadlineTold (c .before .before .deadline .given .1) (c .new2 .ensures))
 
 returns-3 : tie.Need-returns-3
 returns-3 c = by-arm deadlineResultTold (c .before .before .self2 .given .1) (c .told .ensures)

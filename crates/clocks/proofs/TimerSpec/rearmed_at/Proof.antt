@@ -9,11 +9,25 @@ use Rattle.clocks.specs.Specs.{rearmedAt}
 use Rattle.clocks.proofs.TimerSpec.rearmed_at.Statement.{statement}
 use Rattle.clocks.proofs.TimerSpec.rearmed_at.Tie as tie
 
+returns : tie.Need-returns
+returns c =
+    let args = c .before .before .before .args in
+    by-arm (λ (spec : TimerSpec). rearmedAt spec (args .recorded) (args .now)) (c .before .enum-told .given .1)
+    (sym (min-eq-right (le-of-lt (c .if1 .taken))))
+
+returns-2 : tie.Need-returns-2
+returns-2 c =
+    let args = c .before .before .before .args in
+    by-arm (λ (spec : TimerSpec). rearmedAt spec (args .recorded) (args .now)) (c .before .enum-told .given .1)
+    (sym (min-eq-left (c .if1 .left)))
+
+returns-3 : tie.Need-returns-3
+returns-3 c =
+    let args = c .before .before .args in
+    by-arm (λ (spec : TimerSpec). rearmedAt spec (args .recorded) (args .now)) (c .enum-told2 .given .1) refl
+
 pub rearmed-at-spec : {M : Type 1} → statement M
 rearmed-at-spec =
     let shown = tie.spec
-    (λ c. search needs) (λ c. search needs)
-    (λ c. by-arm (λ (spec : TimerSpec). rearmedAt spec (c .before .before .before .args .recorded) (c .before .before .before .args .now)) (c .before .enum-told .given .1) (sym (min-eq-right (le-of-lt (c .if1 .taken)))))
-    (λ c. by-arm (λ (spec : TimerSpec). rearmedAt spec (c .before .before .before .args .recorded) (c .before .before .before .args .now)) (c .before .enum-told .given .1) (sym (min-eq-left (c .if1 .left))))
-    (λ c. by-arm (λ (spec : TimerSpec). rearmedAt spec (c .before .before .args .recorded) (c .before .before .args .now)) (c .enum-told2 .given .1) (refl)) in
+    (λ c. search needs) (λ c. search needs) returns returns-2 returns-3 in
     tie.close shown
