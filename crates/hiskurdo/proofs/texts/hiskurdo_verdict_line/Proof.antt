@@ -22,5 +22,5 @@ returns c =
 
 pub hiskurdo-verdict-line-spec : {M : Type 1} → statement M
 hiskurdo-verdict-line-spec =
-    tie.close
-    (tie.spec (λ c κs. search needs) (λ c κs. search needs) (λ c κs. search needs) (λ c. search needs) returns)
+    let shown = tie.spec (λ c κs. search needs) (λ c κs. search needs) (λ c κs. search needs) (λ c. search needs) returns in
+    tie.close shown

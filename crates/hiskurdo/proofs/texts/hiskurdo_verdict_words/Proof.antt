@@ -25,5 +25,5 @@ returns c =
 
 pub hiskurdo-verdict-words-spec : {M : Type 1} → statement M
 hiskurdo-verdict-words-spec =
-    tie.close
-    (tie.spec (λ c κs. search needs) (λ c κs. search needs) (λ c κs. search needs) (λ c κs. search needs) (λ c. search needs) returns)
+    let shown = tie.spec (λ c κs. search needs) (λ c κs. search needs) (λ c κs. search needs) (λ c κs. search needs) (λ c. search needs) returns in
+    tie.close shown

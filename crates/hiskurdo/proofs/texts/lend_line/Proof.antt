@@ -27,4 +27,5 @@ returns c =
 
 pub lend-line-spec : {M : Type 1} → statement M
 lend-line-spec =
-    tie.close (tie.spec (λ c. search needs) slice-aggregate-lend (λ c κs. search needs) (λ c. search needs) returns)
+    let shown = tie.spec (λ c. search needs) slice-aggregate-lend (λ c κs. search needs) (λ c. search needs) returns in
+    tie.close shown
