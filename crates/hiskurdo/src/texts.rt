@@ -7,8 +7,7 @@ ghost use Prim.Native.Nat.{_≤_};
 ghost use lib.ListN.{length, take};
 ghost use Rattle.resume.specs.Verdict.{verdictRule};
 ghost use Rattle.lines.specs.Line.{lineOf};
-ghost use Rattle.lines.specs.Words.{wordsOf, versionLine};
-ghost use Rattle.lines.specs.Telling.{tellingKind};
+ghost use Rattle.lines.specs.Words.{versionLine};
 ghost use Rattle.hiskurdo.specs.Texts.{lent, wordsFor, Sized, versionNumber, versionText};
 use lines::Line;
 
