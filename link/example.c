@@ -1,5 +1,6 @@
-/* Reads run.jnl and run.pln of a folder: the journal's records, the verdict, and the input that is handed over at the stop.
- * Status 0: the verdict accepts; 1: it refuses; 2: no folder was given. */
+/* Reads run.jnl and run.pln of a folder: the journal's records, the verdict in numbers and in words, and the input that is
+ * handed over at the stop.
+ * Status 0: the verdict accepts; 1: it refuses; 2: no folder was given, or header and archive are not of one version. */
 #include <inttypes.h>
 #include <stdbool.h>
 #include <stdio.h>
@@ -48,17 +49,26 @@ static void print_records(const File *journal) {
     }
 }
 
-/* Whether the verdict accepts. */
-static bool print_verdict(HiskurdoVerdictNumbers verdict) {
+static void print_verdict(HiskurdoVerdictNumbers verdict) {
+    static const char *const endings[] = {
+        [HISKURDO_ENDING_UNSTARTED] = "unstarted", [HISKURDO_ENDING_DUE] = "due",           [HISKURDO_ENDING_DONE] = "done",
+        [HISKURDO_ENDING_OPEN] = "open",           [HISKURDO_ENDING_FINISHED] = "finished",
+    };
     if (verdict.refused != 0) {
         printf("verdict: refused, number %" PRIu64 ", place %" PRIu64 ", divergence %" PRIu64 ", calls %" PRIu64 "\n",
-               verdict.a, verdict.b, verdict.c, verdict.d);
-        return false;
+               verdict.number, verdict.place, verdict.divergence, verdict.calls);
+        return;
     }
-    static const char *const endings[] = {"unstarted", "due", "done", "open", "finished"};
-    printf("verdict: %s, stop %" PRIu64 ", records %" PRIu64 ", calls %" PRIu64 "\n", endings[verdict.a], verdict.b,
-           verdict.c, verdict.d);
-    return true;
+    printf("verdict: %s, stop %" PRIu64 ", records %" PRIu64 ", calls %" PRIu64 "\n", endings[verdict.ending], verdict.stop,
+           verdict.records, verdict.calls);
+}
+
+static void print_texts(const File *journal, const File *plan) {
+    uint8_t text[HISKURDO_TEXT_ROOM];
+    uint64_t len = hiskurdo_verdict_line(journal->bytes, journal->len, plan->bytes, plan->len, text, sizeof text);
+    printf("line: %.*s", (int)len, (const char *)text);
+    len = hiskurdo_verdict_words(journal->bytes, journal->len, plan->bytes, plan->len, text, sizeof text);
+    printf("words: %.*s\n", (int)len, (const char *)text);
 }
 
 static void print_input(const File *journal, const File *plan, uint64_t stop) {
@@ -77,11 +87,17 @@ int main(int argc, char **argv) {
         fprintf(stderr, "usage: example FOLDER (with run.jnl and run.pln)\n");
         return 2;
     }
+    if (hiskurdo_version() != HISKURDO_VERSION_NUMBER) {
+        fprintf(stderr, "hiskurdo.h is of version " HISKURDO_VERSION ", the archive of another\n");
+        return 2;
+    }
     load_or_say(&journal, argv[1], "run.jnl");
     load_or_say(&plan, argv[1], "run.pln");
     print_records(&journal);
     HiskurdoVerdictNumbers verdict = hiskurdo_verdict(journal.bytes, journal.len, plan.bytes, plan.len);
-    if (!print_verdict(verdict)) return 1;
-    if (verdict.a == 1 || verdict.a == 3) print_input(&journal, &plan, verdict.b);
+    print_verdict(verdict);
+    print_texts(&journal, &plan);
+    if (verdict.refused != 0) return 1;
+    if (verdict.ending == HISKURDO_ENDING_DUE || verdict.ending == HISKURDO_ENDING_OPEN) print_input(&journal, &plan, verdict.stop);
     return 0;
 }

@@ -32,15 +32,19 @@ pub struct EntryNumbers {
     pub next_body: u64,
 }
 
-/// A verdict. `refused` 0: ending, stop, records, calls; 1: number, place, divergence, calls.
+/// A verdict. `refused` 0: ending, stop, records, calls; 1: number, place, divergence, calls. What
+/// does not apply is 0.
 #[repr(C)]
 #[derive(Clone, Copy, PartialEq, Eq, Debug, Default)]
 pub struct VerdictNumbers {
     pub refused: u64,
-    pub a: u64,
-    pub b: u64,
-    pub c: u64,
-    pub d: u64,
+    pub ending: u64,
+    pub stop: u64,
+    pub records: u64,
+    pub number: u64,
+    pub place: u64,
+    pub divergence: u64,
+    pub calls: u64,
 }
 
 /// A handover. `number` 0: `what` is 1 completed, 2 failed (parts of the journal) or 3 input
@@ -203,26 +207,32 @@ fn part(file: &[u8], part: &[u8]) -> [u64; 2] {
 }
 
 pub fn verdict(verdict: &Verdict) -> VerdictNumbers {
-    let (refused, [a, b, c, d]) = match *verdict {
+    match *verdict {
         Verdict::Ok {
             ending,
             stop,
             records,
             calls,
-        } => (0, [ending_number(ending), stop, records, calls]),
+        } => VerdictNumbers {
+            ending: ending_number(ending),
+            stop,
+            records,
+            calls,
+            ..VerdictNumbers::default()
+        },
         Verdict::No {
             number,
             place,
             divergence,
             calls,
-        } => (1, [number, place, divergence, calls]),
-    };
-    VerdictNumbers {
-        refused,
-        a,
-        b,
-        c,
-        d,
+        } => VerdictNumbers {
+            refused: 1,
+            number,
+            place,
+            divergence,
+            calls,
+            ..VerdictNumbers::default()
+        },
     }
 }
 

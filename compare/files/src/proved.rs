@@ -23,6 +23,8 @@ unsafe extern "C" {
 #[rustfmt::skip]
 unsafe extern "C" {
     fn hiskurdo_verdict(journal: *const u8, jlen: usize, plan: *const u8, plen: usize) -> VerdictNumbers;
+    fn hiskurdo_verdict_line(journal: *const u8, jlen: usize, plan: *const u8, plen: usize, text: *mut u8, tlen: usize) -> u64;
+    fn hiskurdo_verdict_words(journal: *const u8, jlen: usize, plan: *const u8, plen: usize, text: *mut u8, tlen: usize) -> u64;
     fn hiskurdo_handover(journal: *const u8, jlen: usize, plan: *const u8, plen: usize, boundary: u64) -> HandoverNumbers;
 }
 
@@ -56,6 +58,24 @@ pub fn verdict(journal: &[u8], plan: &[u8]) -> Option<VerdictNumbers> {
     Some(unsafe { hiskurdo_verdict(journal.as_ptr(), journal.len(), plan.as_ptr(), plan.len()) })
 }
 
+/// The verdict's line in a lent buffer: how long it is, or 0 where it does not fit.
+#[cfg(feature = "verdict")]
+pub fn line(journal: &[u8], plan: &[u8], text: &mut [u8]) -> Option<u64> {
+    let (at, len) = (journal.as_ptr(), journal.len());
+    let (lent, room) = (text.as_mut_ptr(), text.len());
+    // SAFETY: as in `verdict`; the buffer is a live slice that no other can reach.
+    Some(unsafe { hiskurdo_verdict_line(at, len, plan.as_ptr(), plan.len(), lent, room) })
+}
+
+/// Its plain words, likewise.
+#[cfg(feature = "verdict")]
+pub fn words(journal: &[u8], plan: &[u8], text: &mut [u8]) -> Option<u64> {
+    let (at, len) = (journal.as_ptr(), journal.len());
+    let (lent, room) = (text.as_mut_ptr(), text.len());
+    // SAFETY: as in `line`.
+    Some(unsafe { hiskurdo_verdict_words(at, len, plan.as_ptr(), plan.len(), lent, room) })
+}
+
 #[cfg(feature = "verdict")]
 pub fn handover(journal: &[u8], plan: &[u8], boundary: u64) -> Option<HandoverNumbers> {
     let (at, len) = (journal.as_ptr(), journal.len());
@@ -75,6 +95,16 @@ pub fn next(_format: Format, _file: &[u8], _entry: u64, _body: u64) -> Option<En
 
 #[cfg(not(feature = "verdict"))]
 pub fn verdict(_journal: &[u8], _plan: &[u8]) -> Option<VerdictNumbers> {
+    None
+}
+
+#[cfg(not(feature = "verdict"))]
+pub fn line(_journal: &[u8], _plan: &[u8], _text: &mut [u8]) -> Option<u64> {
+    None
+}
+
+#[cfg(not(feature = "verdict"))]
+pub fn words(_journal: &[u8], _plan: &[u8], _text: &mut [u8]) -> Option<u64> {
     None
 }
 

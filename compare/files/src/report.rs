@@ -27,6 +27,7 @@ pub fn same_verdict(verdict: &Verdict, journal: impl FnOnce() -> Vec<u8>, plan: 
 pub fn same_pair(journal: &[u8], plan: &[u8], boundaries: impl Iterator<Item = u64>) -> Verdict {
     let verdict = verdict(journal, plan);
     same_verdict(&verdict, || journal.to_vec(), plan);
+    same_texts(&verdict, journal, plan);
     for boundary in boundaries {
         let rust = handover(journal, plan, boundary);
         let rust = numbers::handover(journal, plan, &rust);
@@ -38,6 +39,43 @@ pub fn same_pair(journal: &[u8], plan: &[u8], boundaries: impl Iterator<Item = u
         }
     }
     verdict
+}
+
+/// Compares the proved line with this one, and of line and words that they come whole or not at all.
+fn same_texts(verdict: &Verdict, journal: &[u8], plan: &[u8]) {
+    let line = whole(|text| proved::line(journal, plan, text));
+    let words = whole(|text| proved::words(journal, plan, text));
+    let rust = format!("{verdict}\n");
+    match (line, words) {
+        (None, None) => {}
+        (Some(Ok(line)), Some(Ok(_))) if line == rust.as_bytes() => {}
+        (line, words) => {
+            let what = format!("Rust:   {rust:?}\nProved: {line:?}, {words:?}");
+            differ_on_pair(&what, journal, plan);
+        }
+    }
+}
+
+/// The text that a call writes into a buffer that is always long enough, or what is wrong: it writes
+/// beyond its text, or another one where it just fits, or anything where it does not.
+fn whole(mut call: impl FnMut(&mut [u8]) -> Option<u64>) -> Option<Result<Vec<u8>, &'static str>> {
+    let mut write = |room: usize| {
+        let mut text = vec![0xaa; room];
+        call(&mut text).map(|len| (len as usize, text))
+    };
+    let (len, text) = write(128)?;
+    let (least, exact) = write(len)?;
+    let (none, short) = write(len.saturating_sub(1))?;
+    if len == 0 || text[len..].iter().any(|byte| *byte != 0xaa) {
+        return Some(Err("no text, or bytes beyond it"));
+    }
+    if least != len || exact != text[..len] {
+        return Some(Err("another text where it just fits"));
+    }
+    if none != 0 || short.iter().any(|byte| *byte != 0xaa) {
+        return Some(Err("bytes where it does not fit"));
+    }
+    Some(Ok(text[..len].to_vec()))
 }
 
 pub fn differ_on_pair(what: &str, journal: &[u8], plan: &[u8]) -> ! {

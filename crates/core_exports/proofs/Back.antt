@@ -32,7 +32,8 @@ use Rattle.core_exports.specs.declared.given.PhaseOption.{PhaseOption}
 use Rattle.core_exports.specs.declared.given.PhaseOption.the-variants as PhaseOption
 use Rattle.core_exports.specs.declared.given.MachineOption.{MachineOption}
 use Rattle.core_exports.specs.declared.given.MachineOption.the-variants as MachineOption
-use Rattle.core_exports.specs.Given.{idsNamed, errorNamed, haltedBy, stateNamed, cursorWith, cursorNamed, divergenceNamed, divergedBy, phaseNamed, machineWith, machineNamed}
+use Rattle.core_exports.specs.Given.{idsNamed, errorNamed, haltedBy, stateNamed, cursorWith, cursorNamed}
+use Rattle.core_exports.specs.Given.{divergenceNamed, divergedBy, phaseNamed, machineWith, machineNamed}
 use Rattle.core_exports.specs.Numbers.{idsNumbersFor, idsNumbers, cursorNumbersFor, cursorNumbers}
 use Rattle.core_exports.specs.MachineNumbers.{machineNumbersFor, machineNumbers}
 use Rattle.core_exports.proofs.Arms.{by-arms}

@@ -14,7 +14,8 @@ ghost use Rattle.answer_numbers.specs.MachineTold.{
 };
 ghost use Rattle.errors.specs.Told.{told1};
 ghost use Rattle.core_exports.specs.Given.{recordNamed, machineNamed, turnNamed, timerRequestNamed};
-ghost use Rattle.core_exports.specs.MachineNumbers.{requestOf, pendingFrom, machineNumbersFor, machineNumbers, answered, ofMachine, machineKept, machineAdvancedBy, calledBy, requestedBy};
+ghost use Rattle.core_exports.specs.MachineNumbers.{requestOf, pendingFrom, machineNumbersFor, machineNumbers};
+ghost use Rattle.core_exports.specs.MachineNumbers.{answered, ofMachine, machineKept, machineAdvancedBy, calledBy, requestedBy};
 use crate::CursorNumbers;
 use crate::RecordNumbers;
 use crate::SpecNumbers;

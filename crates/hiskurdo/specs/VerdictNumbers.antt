@@ -6,12 +6,28 @@ use Rattle.endings.specs.Endings.{endingNumber}
 use Rattle.hiskurdo.specs.declared.verdicts.HandoverNumbers.{HandoverNumbers}
 use Rattle.hiskurdo.specs.declared.verdicts.VerdictNumbers.{VerdictNumbers}
 
--- "`ok`, ending, stop, records, calls; or `no`, number, place, divergence, calls"
+-- "`ok`, ending, stop, records, calls; or `no`, number, place, divergence, calls": each in its own field, and 0 in the others
 abbrev pub verdictNumbers : Answer → VerdictNumbers
-verdictNumbers (Answer.Ok ending stop records calls) =
-    record { refused = 0; a = endingNumber ending; b = stop; c = records; d = calls }
-verdictNumbers (Answer.No number place divergence calls) =
-    record { refused = 1; a = number; b = place; c = divergence; d = calls }
+verdictNumbers (Answer.Ok ending stop records calls) = record {
+  refused = 0;
+  ending = endingNumber ending;
+  stop = stop;
+  records = records;
+  number = 0;
+  place = 0;
+  divergence = 0;
+  calls = calls;
+}
+verdictNumbers (Answer.No number place divergence calls) = record {
+  refused = 1;
+  ending = 0;
+  stop = 0;
+  records = 0;
+  number = number;
+  place = place;
+  divergence = divergence;
+  calls = calls;
+}
 
 -- the handover's: number, what is given, start, length
 abbrev pub handoverNumbers : Told → HandoverNumbers

@@ -10,14 +10,17 @@ use records::Body;
 use resume::handing;
 
 // A verdict. refused 0: ending (0 unstarted, 1 due, 2 done, 3 open, 4 finished), stop, records, calls;
-// refused 1: number, place, divergence, calls.
+// refused 1: number, place, divergence, calls. What does not apply is 0.
 #[repr(C)]
 pub struct VerdictNumbers {
     pub refused: u64,
-    pub a: u64,
-    pub b: u64,
-    pub c: u64,
-    pub d: u64,
+    pub ending: u64,
+    pub stop: u64,
+    pub records: u64,
+    pub number: u64,
+    pub place: u64,
+    pub divergence: u64,
+    pub calls: u64,
 }
 
 // A handover. number 0: what (1 completed, 2 failed: of the journal; 3 input: of the plan), where it starts there and how
@@ -42,10 +45,13 @@ pub extern "C" fn hiskurdo_verdict(journal: &[u8], plan: &[u8]) -> VerdictNumber
             calls,
         } => VerdictNumbers {
             refused: 0,
-            a: ending.number(),
-            b: stop,
-            c: records,
-            d: calls,
+            ending: ending.number(),
+            stop,
+            records,
+            number: 0,
+            place: 0,
+            divergence: 0,
+            calls,
         },
         Answer::No {
             number,
@@ -54,10 +60,13 @@ pub extern "C" fn hiskurdo_verdict(journal: &[u8], plan: &[u8]) -> VerdictNumber
             calls,
         } => VerdictNumbers {
             refused: 1,
-            a: number,
-            b: place,
-            c: divergence,
-            d: calls,
+            ending: 0,
+            stop: 0,
+            records: 0,
+            number,
+            place,
+            divergence,
+            calls,
         },
     }
 }

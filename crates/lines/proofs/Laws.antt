@@ -1,14 +1,19 @@
--- Published laws: what a line's first bytes are, and that the verdict's line is never empty.
+-- Published laws: what a line's first bytes are, and that neither the verdict's line nor its words are ever empty.
 use Prim.Native.Nat.{ℕ, _-_, _≤_}
-use mathlib.Core.Path.{_≡_, ap, _∙_}
-use mathlib.Core.List.{List, _++_}
+use mathlib.Core.Path.{_≡_, refl, ap, _∙_}
+use mathlib.Core.Bool.{Bool, true, false, cond, not, _&&_}
+use mathlib.Core.List.{List, [], _∷_, _++_}
 use native.Mathlib.Omega.{arith}
+use borrow.Author.Tests.{not-true}
+use lib.Dec.{eqb}
 use lib.ListN.{length, replicate, take}
 use lib.Seq.{take-append-le}
+use Rattle.files.proofs.Checks.{both}
 use Rattle.histories.specs.declared.Answer.{Answer}
 use Rattle.histories.specs.declared.Answer.the-variants as Answer
 use Rattle.lines.specs.declared.Line.{Line}
 use Rattle.lines.specs.Line.{lineOf, holding, Holds}
+use Rattle.lines.specs.Words.{Row, table, otherWords, ascii, isOf, wordsIn, filled, endingDetail, detailOf, wordsOf}
 
 pub held-len : (line : Line) (text : List ℕ) → Holds line text → line .len ≡ length text
 held-len line text h = ap (λ (l : Line). l .len) (h .whole)
@@ -22,3 +27,35 @@ pub line-some : (answer : Answer) → 1 ≤ length (lineOf answer)
 unfolding lineOf
 line-some (Answer.Ok ending stop records calls) = omega arith
 line-some (Answer.No number place divergence calls) = omega arith
+
+-- words that begin with a byte of their own
+abbrev begun : List ℕ → Bool
+begun [] = false
+begun (byte ∷ bytes) = not (eqb byte 35)
+
+abbrev allBegun : List Row → Bool
+allBegun [] = begun (ascii otherWords)
+allBegun (r ∷ rows) = begun (ascii (r .words)) && allBegun rows
+
+filled-some : (n : ℕ) (bytes : List ℕ) → begun bytes ≡ true → 1 ≤ length (filled n bytes)
+filled-some n [] h = let z : _≡_ {A = ℕ} 0 1 = cc in absurd (omega arith)
+filled-some n (byte ∷ bytes) h = rw (not-true (eqb byte 35) h) (omega arith)
+
+begun-in : (rows : List Row) (number detail : ℕ) → allBegun rows ≡ true → begun (ascii (wordsIn rows number detail)) ≡ true
+begun-in [] number detail h = h
+begun-in (r ∷ rows) number detail h =
+    let parts = both (begun (ascii (r .words))) (allBegun rows) h in
+    either (isOf number detail r) (parts .0) (begun-in rows number detail (parts .1))
+  where
+    either : (b : Bool) → begun (ascii (r .words)) ≡ true → begun (ascii (wordsIn rows number detail)) ≡ true →
+        begun (ascii (cond b (r .words) (wordsIn rows number detail))) ≡ true
+    either true x y = x
+    either false x y = y
+
+table-some : (n number detail : ℕ) → 1 ≤ length (filled n (ascii (wordsIn table number detail)))
+table-some n number detail = filled-some n (ascii (wordsIn table number detail)) (begun-in table number detail refl)
+
+pub words-some : (answer : Answer) (kind : ℕ) → 1 ≤ length (wordsOf answer kind)
+unfolding wordsOf
+words-some (Answer.Ok ending stop records calls) kind = table-some stop 0 (endingDetail ending kind)
+words-some (Answer.No number place divergence calls) kind = table-some place number (detailOf number place divergence kind)

@@ -1,4 +1,5 @@
 pub mod Line
 pub mod Rows
+pub mod Telling
 pub mod Words
 pub mod Writing

@@ -2,6 +2,7 @@
 //
 // Owns: the words, the digits, the spaces and the line feed. Must not own: what the answer is, where the line goes.
 // Defends: any answer at all has exactly its line, and nothing stands after it.
+pub mod telling;
 pub mod words;
 
 ghost use mathlib.Core.Path.{_≡_};

@@ -9,26 +9,29 @@ use Rattle.core_exports.proofs.hiskurdo_cursor_advance.Tie as tie
 
 returns : tie.Need-returns
 returns c =
-    let named = c .before .before .before .before .before .before .before .before .before .cursor-of in
     let read = c .before .before .before .before .before .record-of in
-    by-arms (cursorAdvancedBy (c .before .before .before .before .before .before .before .before .before .before .args .cursor))
-    (sym (named .ensures) ∙ c .before .before .before .before .before .before .before .c .given .1)
+    let at-c = c .before .before .before .before .before .before .before in
+    let named = at-c .before .before .cursor-of in
+    let args = at-c .before .before .before .args in
+    by-arms (cursorAdvancedBy (args .cursor)) (sym (named .ensures) ∙ at-c .c .given .1)
     (sym (read .ensures) ∙ c .before .before .before .x .given .1)
     (rw (c .advanced-numbers .ensures, c .before .advance .ensures))
 
 returns-2 : tie.Need-returns-2
 returns-2 c =
-    let named = c .before .before .before .before .before .before .before .cursor-of in
     let read = c .before .before .before .record-of in
-    by-arms (cursorAdvancedBy (c .before .before .before .before .before .before .before .before .args .cursor))
-    (sym (named .ensures) ∙ c .before .before .before .before .before .c .given .1) (sym (read .ensures) ∙ c .before .enum-told .given .1)
+    let at-c = c .before .before .before .before .before in
+    let named = at-c .before .before .cursor-of in
+    let args = at-c .before .before .before .args in
+    by-arms (cursorAdvancedBy (args .cursor))
+    (sym (named .ensures) ∙ at-c .c .given .1) (sym (read .ensures) ∙ c .before .enum-told .given .1)
     (c .cursor-kept .ensures)
 
 returns-3 : tie.Need-returns-3
 returns-3 c =
     let named = c .before .before .before .cursor-of in
-    by-arms (cursorAdvancedBy (c .before .before .before .before .args .cursor))
-    (sym (named .ensures) ∙ c .before .enum-told2 .given .1) refl (rw (c .cursor-kept2 .ensures))
+    let args = c .before .before .before .before .args in
+    by-arms (cursorAdvancedBy (args .cursor)) (sym (named .ensures) ∙ c .before .enum-told2 .given .1) refl (rw (c .cursor-kept2 .ensures))
 
 pub hiskurdo-cursor-advance-spec : {M : Type 1} → statement M
 hiskurdo-cursor-advance-spec =

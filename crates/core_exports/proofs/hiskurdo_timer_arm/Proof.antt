@@ -1,30 +1,44 @@
 -- `core_exports::hiskurdo_timer_arm` meets its contract: by the board and the spec that the numbers name.
 -- Assumes nothing.
 use borrow.Author.Needs.{needs}
-use mathlib.Core.Path.{sym, _∙_}
-use Rattle.errors.proofs.Arms.{by-arm}
-use Rattle.core_exports.specs.Numbers.{ofSpec, ofBoard}
+use Prim.Native.Nat.{ℕ}
+use mathlib.Core.Path.{_∙_, ap}
+use Rattle.errors.specs.declared.Told.{Told}
+use Rattle.clocks.specs.declared.ClockCapability.{ClockCapability}
+use Rattle.clocks.specs.declared.TimerSpec.{TimerSpec}
+use Rattle.clocks.specs.Timers.{armed}
+use Rattle.clocks.specs.Told.{timerResultTold}
+use Rattle.core_exports.proofs.Board.{both-named, no-spec, no-board}
 use Rattle.core_exports.proofs.hiskurdo_timer_arm.Statement.{statement}
 use Rattle.core_exports.proofs.hiskurdo_timer_arm.Tie as tie
 
+abbrev says : ℕ → ClockCapability → TimerSpec → Told
+says now b s = timerResultTold (armed s b now)
+
 returns : tie.Need-returns
 returns c =
-    let board = c .before .before .before .before .before .before .before .before .before .of in
-    let clock = c .before .before .before .before .before .spec-of in
-    by-arm (ofBoard _) (sym (board .ensures) ∙ c .before .before .before .before .before .before .before .board .given .1)
-    (by-arm (ofSpec _) (sym (clock .ensures) ∙ c .before .before .before .s .given .1) (rw (c .told .ensures, c .before .arm .ensures)))
+    let named = c .before .before .before in
+    let spec = named .before .before in
+    let board = spec .before .before in
+    let asked = board .before .before in
+    let args = asked .before .args in
+    both-named (says (args .now)) (args .capability) (args .spec) (asked .of .ensures) (board .board .given .1) (spec .spec-of .ensures)
+    (named .s .given .1) (c .told .ensures ∙ ap timerResultTold (c .before .arm .ensures))
 
 returns-2 : tie.Need-returns-2
 returns-2 c =
-    let board = c .before .before .before .before .before .before .before .of in
-    let clock = c .before .before .before .spec-of in
-    by-arm (ofBoard _) (sym (board .ensures) ∙ c .before .before .before .before .before .board .given .1)
-    (by-arm (ofSpec _) (sym (clock .ensures) ∙ c .before .enum-told .given .1) (c .names-nothing .ensures))
+    let spec = c .before .before .before in
+    let board = spec .before .before in
+    let asked = board .before .before in
+    let args = asked .before .args in
+    no-spec (says (args .now)) (args .capability) (args .spec) (asked .of .ensures) (board .board .given .1) (spec .spec-of .ensures)
+    (c .before .enum-told .given .1) (c .names-nothing .ensures)
 
 returns-3 : tie.Need-returns-3
 returns-3 c =
-    let board = c .before .before .before .of in
-    by-arm (ofBoard _) (sym (board .ensures) ∙ c .before .enum-told2 .given .1) (c .names-nothing2 .ensures)
+    let asked = c .before .before .before in
+    let args = asked .before .args in
+    no-board (says (args .now)) (args .capability) (args .spec) (asked .of .ensures) (c .before .enum-told2 .given .1) (c .names-nothing2 .ensures)
 
 pub hiskurdo-timer-arm-spec : {M : Type 1} → statement M
 hiskurdo-timer-arm-spec =

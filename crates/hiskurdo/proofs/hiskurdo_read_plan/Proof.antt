@@ -13,11 +13,20 @@ use Rattle.hiskurdo.proofs.hiskurdo_read_plan.Tie as tie
 abbrev told : PlanRead → ReadNumbers
 told r = readNumbers (planTold r)
 
+returns : tie.Need-returns
+returns c =
+    let read = c .before .before .before .before .read-plan in
+    by-arm told (sym (read .ensures) ∙ c .before .before .number .given .1) (c .refused .ensures)
+
+returns-2 : tie.Need-returns-2
+returns-2 c =
+    let named = c .before .before .before in
+    let read = named .before .before .read-plan in
+    by-arm told (sym (read .ensures) ∙ named .capability .given .1) (rw (c .readable .ensures, c .before .capability-number .ensures))
+
 pub hiskurdo-read-plan-spec : {M : Type 1} → statement M
 hiskurdo-read-plan-spec =
     let shown = tie.spec
     (λ c κs. search needs) (λ c. search needs) (λ c κs. search needs) (λ c. search needs) (λ c κs. search needs)
-    (λ c κs. search needs)
-    (λ c. by-arm told (sym (c .before .before .before .before .read-plan .ensures) ∙ c .before .before .number .given .1) (c .refused .ensures))
-    (λ c. by-arm told (sym (c .before .before .before .before .before .read-plan .ensures) ∙ c .before .before .before .capability .given .1) (rw (c .readable .ensures, c .before .capability-number .ensures))) in
+    (λ c κs. search needs) returns returns-2 in
     tie.close shown

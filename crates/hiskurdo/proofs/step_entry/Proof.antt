@@ -6,11 +6,18 @@ use Rattle.files.specs.Encoding.{stepEntry}
 use Rattle.hiskurdo.proofs.step_entry.Statement.{statement}
 use Rattle.hiskurdo.proofs.step_entry.Tie as tie
 
+returns : tie.Need-returns
+returns c = by-arm stepEntry (c .before .before .step .given .1) (c .entry-with .ensures)
+
+returns-2 : tie.Need-returns-2
+returns-2 c =
+    let told = c .before .before .before .before in
+    by-arm stepEntry (told .step2 .given .1)
+    (rw (c .entry-with2 .ensures, c .before .deadline .ensures, c .before .before .clock-kind .ensures))
+
 pub step-entry-spec : {M : Type 1} → statement M
 step-entry-spec =
     let shown = tie.spec
     (λ c. search needs) (λ c. search needs) (λ c. search needs) (λ c κs. search needs) (λ c. search needs)
-    (λ c κs. search needs) (λ c κs. search needs) (λ c κs. search needs)
-    (λ c. by-arm stepEntry (c .before .before .step .given .1) (c .entry-with .ensures))
-    (λ c. by-arm stepEntry (c .before .before .before .before .step2 .given .1) (rw (c .entry-with2 .ensures, c .before .deadline .ensures, c .before .before .clock-kind .ensures))) in
+    (λ c κs. search needs) (λ c κs. search needs) (λ c κs. search needs) returns returns-2 in
     tie.close shown

@@ -9,16 +9,18 @@ use Rattle.core_exports.proofs.given.cursor_of.Tie as tie
 
 returns : tie.Need-returns
 returns c =
-    let offered = c .before .before .before .before .before .before .before .ids-of in
     let at = c .before .before .before .state-of in
-    by-arms cursorWith (sym (offered .ensures) ∙ c .before .before .before .before .before .ids .given .1)
+    let at-ids = c .before .before .before .before .before in
+    let offered = at-ids .before .before .ids-of in
+    by-arms cursorWith (sym (offered .ensures) ∙ at-ids .ids .given .1)
     (sym (at .ensures) ∙ c .before .state .given .1) refl
 
 returns-2 : tie.Need-returns-2
 returns-2 c =
-    let offered = c .before .before .before .before .before .before .ids-of in
     let at = c .before .before .state-of in
-    by-arms cursorWith (sym (offered .ensures) ∙ c .before .before .before .before .ids .given .1) (sym (at .ensures) ∙ c .enum-told .given .1) refl
+    let at-ids = c .before .before .before .before in
+    let offered = at-ids .before .before .ids-of in
+    by-arms cursorWith (sym (offered .ensures) ∙ at-ids .ids .given .1) (sym (at .ensures) ∙ c .enum-told .given .1) refl
 
 returns-3 : tie.Need-returns-3
 returns-3 c =

@@ -9,16 +9,18 @@ use Rattle.core_exports.proofs.given.machine_of.Tie as tie
 
 returns : tie.Need-returns
 returns c =
-    let under = c .before .before .before .before .before .before .before .cursor-of in
     let in-phase = c .before .before .before .phase-of in
-    by-arms machineWith (sym (under .ensures) ∙ c .before .before .before .before .before .cursor .given .1)
+    let at-cursor = c .before .before .before .before .before in
+    let under = at-cursor .before .before .cursor-of in
+    by-arms machineWith (sym (under .ensures) ∙ at-cursor .cursor .given .1)
     (sym (in-phase .ensures) ∙ c .before .phase .given .1) refl
 
 returns-2 : tie.Need-returns-2
 returns-2 c =
-    let under = c .before .before .before .before .before .before .cursor-of in
     let in-phase = c .before .before .phase-of in
-    by-arms machineWith (sym (under .ensures) ∙ c .before .before .before .before .cursor .given .1)
+    let at-cursor = c .before .before .before .before in
+    let under = at-cursor .before .before .cursor-of in
+    by-arms machineWith (sym (under .ensures) ∙ at-cursor .cursor .given .1)
     (sym (in-phase .ensures) ∙ c .enum-told .given .1) refl
 
 returns-3 : tie.Need-returns-3

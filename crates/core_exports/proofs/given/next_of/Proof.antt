@@ -11,9 +11,10 @@ use Rattle.core_exports.proofs.given.next_of.Tie as tie
 
 returns : tie.Need-returns
 returns c =
-    let args = c .before .before .before .before .before .args in
     let named = c .before .before .before .record-of in
-    by-arm (λ (ended : ℕ). nextNamed ended (args .«record»)) (c .before .before .before .before .match .keys1)
+    let at-match = c .before .before .before .before in
+    let args = at-match .before .args in
+    by-arm (λ (ended : ℕ). nextNamed ended (args .«record»)) (at-match .match .keys1)
     (by-arm nextBy (sym (named .ensures) ∙ c .before .x .given .1) refl)
 
 returns-2 : tie.Need-returns-2

@@ -26,9 +26,10 @@ returns-3 c =
 
 returns-4 : tie.Need-returns-4
 returns-4 c =
-    let args = c .before .before .before .before .before .args in
     let named = c .before .before .before .divergence-of in
-    by-arm (λ (phase : ℕ). phaseNamed phase (args .divergence)) (c .before .before .before .before .match .keys4)
+    let at-match = c .before .before .before .before in
+    let args = at-match .before .args in
+    by-arm (λ (phase : ℕ). phaseNamed phase (args .divergence)) (at-match .match .keys4)
     (by-arm divergedBy (sym (named .ensures) ∙ c .before .d .given .1) refl)
 
 returns-5 : tie.Need-returns-5

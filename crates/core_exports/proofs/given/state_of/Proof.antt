@@ -41,9 +41,10 @@ returns-6 c =
 
 returns-7 : tie.Need-returns-7
 returns-7 c =
-    let args = c .before .before .before .before .before .args in
     let named = c .before .before .before .error-of in
-    by-arm (λ (position : ℕ). stateAt position (args .n)) (c .before .before .before .before .match .keys7)
+    let at-match = c .before .before .before .before in
+    let args = at-match .before .args in
+    by-arm (λ (position : ℕ). stateAt position (args .n)) (at-match .match .keys7)
     (by-arm haltedBy (sym (named .ensures) ∙ c .before .error .given .1) refl)
 
 returns-8 : tie.Need-returns-8

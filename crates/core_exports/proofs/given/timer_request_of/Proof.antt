@@ -9,16 +9,18 @@ use Rattle.core_exports.proofs.given.timer_request_of.Tie as tie
 
 returns : tie.Need-returns
 returns c =
-    let clock = c .before .before .before .before .before .before .before .spec-of in
     let capable = c .before .before .before .of in
-    by-arms requestWith (sym (clock .ensures) ∙ c .before .before .before .before .before .named .given .1)
+    let at-named = c .before .before .before .before .before in
+    let clock = at-named .before .before .spec-of in
+    by-arms requestWith (sym (clock .ensures) ∙ at-named .named .given .1)
     (sym (capable .ensures) ∙ c .before .board .given .1) refl
 
 returns-2 : tie.Need-returns-2
 returns-2 c =
-    let clock = c .before .before .before .before .before .before .spec-of in
     let capable = c .before .before .of in
-    by-arms requestWith (sym (clock .ensures) ∙ c .before .before .before .before .named .given .1)
+    let at-named = c .before .before .before .before in
+    let clock = at-named .before .before .spec-of in
+    by-arms requestWith (sym (clock .ensures) ∙ at-named .named .given .1)
     (sym (capable .ensures) ∙ c .enum-told .given .1) refl
 
 returns-3 : tie.Need-returns-3

@@ -9,16 +9,18 @@ use Rattle.core_exports.proofs.given.turn_of.Tie as tie
 
 returns : tie.Need-returns
 returns c =
-    let asked = c .before .before .before .before .before .before .before .machine-of in
     let about = c .before .before .before .next-of in
-    by-arms turnWith (sym (asked .ensures) ∙ c .before .before .before .before .before .m .given .1)
+    let at-m = c .before .before .before .before .before in
+    let asked = at-m .before .before .machine-of in
+    by-arms turnWith (sym (asked .ensures) ∙ at-m .m .given .1)
     (sym (about .ensures) ∙ c .before .next .given .1) refl
 
 returns-2 : tie.Need-returns-2
 returns-2 c =
-    let asked = c .before .before .before .before .before .before .machine-of in
     let about = c .before .before .next-of in
-    by-arms turnWith (sym (asked .ensures) ∙ c .before .before .before .before .m .given .1) (sym (about .ensures) ∙ c .enum-told .given .1) refl
+    let at-m = c .before .before .before .before in
+    let asked = at-m .before .before .machine-of in
+    by-arms turnWith (sym (asked .ensures) ∙ at-m .m .given .1) (sym (about .ensures) ∙ c .enum-told .given .1) refl
 
 returns-3 : tie.Need-returns-3
 returns-3 c =

@@ -9,25 +9,30 @@ use Rattle.core_exports.proofs.machines.hiskurdo_machine_advance.Tie as
 
 returns : tie.Need-returns
 returns c =
-    let named = c .before .before .before .before .before .before .before .before .before .before .machine-of in
-    let read = c .before .before .before .before .before .before .record-of in
-    by-arms (machineAdvancedBy (c .before .before .before .before .before .before .before .before .before .before .before .args .machine))
-    (sym (named .ensures) ∙ c .before .before .before .before .before .before .before .before .m .given .1)
-    (sym (read .ensures) ∙ c .before .before .before .before .x .given .1)
+    let at-x = c .before .before .before .before in
+    let read = at-x .before .before .record-of in
+    let at-m = at-x .before .before .before .before in
+    let named = at-m .before .before .machine-of in
+    let args = at-m .before .before .before .args in
+    by-arms (machineAdvancedBy (args .machine)) (sym (named .ensures) ∙ at-m .m .given .1)
+    (sym (read .ensures) ∙ at-x .x .given .1)
     (rw (c .answered .ensures, c .before .step-result-told .ensures, c .before .before .advance .ensures))
 
 returns-2 : tie.Need-returns-2
 returns-2 c =
-    let named = c .before .before .before .before .before .before .before .machine-of in
     let read = c .before .before .before .record-of in
-    by-arms (machineAdvancedBy (c .before .before .before .before .before .before .before .before .args .machine))
-    (sym (named .ensures) ∙ c .before .before .before .before .before .m .given .1) (sym (read .ensures) ∙ c .before .enum-told .given .1)
+    let at-m = c .before .before .before .before .before in
+    let named = at-m .before .before .machine-of in
+    let args = at-m .before .before .before .args in
+    by-arms (machineAdvancedBy (args .machine))
+    (sym (named .ensures) ∙ at-m .m .given .1) (sym (read .ensures) ∙ c .before .enum-told .given .1)
     (c .machine-kept .ensures)
 
 returns-3 : tie.Need-returns-3
 returns-3 c =
     let named = c .before .before .before .machine-of in
-    by-arms (machineAdvancedBy (c .before .before .before .before .args .machine))
+    let args = c .before .before .before .before .args in
+    by-arms (machineAdvancedBy (args .machine))
     (sym (named .ensures) ∙ c .before .enum-told2 .given .1) refl (rw (c .machine-kept2 .ensures))
 
 pub hiskurdo-machine-advance-spec : {M : Type 1} → statement M

@@ -9,9 +9,10 @@ use Rattle.core_exports.proofs.machines.hiskurdo_machine_intent.Tie as 
 
 returns : tie.Need-returns
 returns c =
-    let asked = c .before .before .before .before .before .before .before .turn-of in
-    by-arm (calledBy (c .before .before .before .before .before .before .before .before .args .machine) _)
-    (sym (asked .ensures) ∙ c .before .before .before .before .before .m .given .1)
+    let at-m = c .before .before .before .before .before in
+    let asked = at-m .before .before .turn-of in
+    let args = at-m .before .before .before .args in
+    by-arm (calledBy (args .machine) _) (sym (asked .ensures) ∙ at-m .m .given .1)
     (rw (
       c .answered .ensures,
       c .before .intent-result-told .ensures,
@@ -22,7 +23,8 @@ returns c =
 returns-2 : tie.Need-returns-2
 returns-2 c =
     let asked = c .before .before .before .turn-of in
-    by-arm (calledBy (c .before .before .before .before .args .machine) _) (sym (asked .ensures) ∙ c .before .enum-told .given .1)
+    let args = c .before .before .before .before .args in
+    by-arm (calledBy (args .machine) _) (sym (asked .ensures) ∙ c .before .enum-told .given .1)
     (c .machine-kept .ensures)
 
 pub hiskurdo-machine-intent-spec : {M : Type 1} → statement M

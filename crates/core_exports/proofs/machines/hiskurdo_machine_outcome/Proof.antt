@@ -9,15 +9,17 @@ use Rattle.core_exports.proofs.machines.hiskurdo_machine_outcome.Tie as
 
 returns : tie.Need-returns
 returns c =
-    let asked = c .before .before .before .before .before .before .turn-of in
-    by-arm (calledBy (c .before .before .before .before .before .before .before .args .machine) _)
-    (sym (asked .ensures) ∙ c .before .before .before .before .m .given .1)
+    let at-m = c .before .before .before .before in
+    let asked = at-m .before .before .turn-of in
+    let args = at-m .before .before .before .args in
+    by-arm (calledBy (args .machine) _) (sym (asked .ensures) ∙ at-m .m .given .1)
     (rw (c .answered .ensures, c .before .resolve-result-told .ensures, c .before .before .outcome .ensures))
 
 returns-2 : tie.Need-returns-2
 returns-2 c =
     let asked = c .before .before .before .turn-of in
-    by-arm (calledBy (c .before .before .before .before .args .machine) _) (sym (asked .ensures) ∙ c .before .enum-told .given .1)
+    let args = c .before .before .before .before .args in
+    by-arm (calledBy (args .machine) _) (sym (asked .ensures) ∙ c .before .enum-told .given .1)
     (c .machine-kept .ensures)
 
 pub hiskurdo-machine-outcome-spec : {M : Type 1} → statement M

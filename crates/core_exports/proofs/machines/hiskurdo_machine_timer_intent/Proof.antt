@@ -9,20 +9,22 @@ use Rattle.core_exports.proofs.machines.hiskurdo_machine_timer_intent.T
 
 returns : tie.Need-returns
 returns c =
-    let args = c .before .before .before .before .before .before .before .before .before .before .before .args in
-    let wanted = c .before .before .before .before .before .before .before .before .before .before .timer-request-of in
-    let asked = c .before .before .before .before .before .before .turn-of in
-    by-arm (requestedBy (args .machine) _)
-    (sym (wanted .ensures) ∙ c .before .before .before .before .before .before .before .before .request .given .1)
-    (by-arm (calledBy (args .machine) _) (sym (asked .ensures) ∙ c .before .before .before .before .m .given .1)
+    let at-m = c .before .before .before .before in
+    let asked = at-m .before .before .turn-of in
+    let at-request = at-m .before .before .before .before in
+    let wanted = at-request .before .before .timer-request-of in
+    let args = at-request .before .before .before .args in
+    by-arm (requestedBy (args .machine) _) (sym (wanted .ensures) ∙ at-request .request .given .1)
+    (by-arm (calledBy (args .machine) _) (sym (asked .ensures) ∙ at-m .m .given .1)
     (rw (c .answered .ensures, c .before .timer-intent-result-told .ensures, c .before .before .timer-intent .ensures .0)))
 
 returns-2 : tie.Need-returns-2
 returns-2 c =
-    let args = c .before .before .before .before .before .before .before .before .args in
-    let wanted = c .before .before .before .before .before .before .before .timer-request-of in
     let asked = c .before .before .before .turn-of in
-    by-arm (requestedBy (args .machine) _) (sym (wanted .ensures) ∙ c .before .before .before .before .before .request .given .1)
+    let at-request = c .before .before .before .before .before in
+    let wanted = at-request .before .before .timer-request-of in
+    let args = at-request .before .before .before .args in
+    by-arm (requestedBy (args .machine) _) (sym (wanted .ensures) ∙ at-request .request .given .1)
     (by-arm (calledBy (args .machine) _) (sym (asked .ensures) ∙ c .before .enum-told .given .1) (c .machine-kept .ensures))
 
 returns-3 : tie.Need-returns-3
