@@ -12,14 +12,16 @@ ghost use lib.Seq.{paste};
 ghost use Rattle.io.specs.Counts.{Counts};
 ghost use Rattle.file_bytes.specs.Loaded.{Loaded};
 
-// How many bytes of a folder's file stand at the start of room: at most 32,770, so that a file that is too long is seen to be.
-// 0 for a file that cannot be read.
+// The bytes that are read of a file: more than the longest file has, so that a longer one is seen to be too long.
+pub const ROOM: usize = 32770;
+
+// How many bytes of a folder's file stand at the start of room, at most `ROOM`. 0 for a file that cannot be read.
 pub fn contents(folder: &[u8], file: &[u8], room: &mut [u8]) -> usize
     ensures { λ r. ⌜ Loaded (now (room .entry)) r (now (room .exit)) ⌝ }
 {
     let mut path = [0u8; 4608];
     let len = path_of(folder, file, &mut path);
-    let mut own = [0u8; 32770];
+    let mut own = [0u8; ROOM];
     let n = read_file(&path[..len], &mut own);
     put(&own[..n], room)
 }

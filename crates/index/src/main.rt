@@ -69,8 +69,8 @@ fn version() {
 
 // The row of each argument, up to the first that cannot be written.
 fn folders(count: usize) {
-    let mut journal = [0u8; 32770];
-    let mut plan = [0u8; 32770];
+    let mut journal = [0u8; file_bytes::ROOM];
+    let mut plan = [0u8; file_bytes::ROOM];
     let mut i = 1;
     while i < count {
         if !folder(i, &mut journal, &mut plan) {

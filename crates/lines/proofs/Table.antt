@@ -13,7 +13,8 @@ use lib.ListN.{length, take, drop, getD, length-append, length-drop, drop-of-len
 use lib.Seq.{drop-cons, getD-drop, drop-drop, take-all}
 use Rattle.files.proofs.Checks.{both}
 use Rattle.lines.specs.Line.{decimal}
-use Rattle.lines.specs.Words.{Row, table, otherWords, ascii, isOf, wordsIn, shown, filled}
+use Rattle.lines.specs.Words.{Row, table, otherWords, isOf, wordsIn, shown, filled}
+use Rattle.endings.specs.Endings.{ascii}
 use Rattle.lines.specs.Rows.{coded, keyed, afterLine, ofLine, wordsAt}
 use Rattle.lines.proofs.Decimal.{twenty}
 

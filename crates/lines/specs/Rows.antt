@@ -1,10 +1,11 @@
--- How the table of words is kept in bytes, a row to a line, and searched.
+-- How the table of words is kept in bytes, a row to a line, and searched. Only private functions use this.
 use Prim.Native.Nat.{ℕ, _+_, _/_, _%_}
 use mathlib.Core.Bool.{Bool, cond, _&&_}
 use mathlib.Core.List.{List, [], _∷_, _++_}
 use lib.Dec.{eqb, ltb}
 use lib.ListN.{length, drop, getD}
-use Rattle.lines.specs.Words.{Row, ascii, otherWords}
+use Rattle.endings.specs.Endings.{ascii}
+use Rattle.lines.specs.Words.{Row, otherWords}
 
 -- two digits of the number, a space, one digit of the detail, a space, the words, a line feed
 abbrev pub coded : List Row → List ℕ

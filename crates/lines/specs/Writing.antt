@@ -1,4 +1,4 @@
--- How a line is written, byte after byte.
+-- How a line is written, byte after byte. Only private functions use this.
 use Prim.Native.Nat.{ℕ, _+_}
 use mathlib.Core.List.{List, [], _∷_}
 use lib.ListN.{set}

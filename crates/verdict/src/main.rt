@@ -46,8 +46,8 @@ fn usage(fd: i32) {
 
 // The verdict on a folder's files.
 fn judge(folder: &[u8]) {
-    let mut journal = [0u8; 32770];
-    let mut plan = [0u8; 32770];
+    let mut journal = [0u8; file_bytes::ROOM];
+    let mut plan = [0u8; file_bytes::ROOM];
     let n = file_bytes::contents(folder, b"run.jnl", &mut journal);
     let m = file_bytes::contents(folder, b"run.pln", &mut plan);
     print(verdict_line(&journal[..n], &plan[..m]));

@@ -5,7 +5,8 @@ use mathlib.Core.Path.{_∙_, refl, sym}
 use Prim.Native.Nat.{ℕ, _<_, _≤_}
 use native.Mathlib.Omega.{arith}
 use lib.ListN.{length}
-use Rattle.lines.specs.Words.{ascii, filled}
+use Rattle.lines.specs.Words.{filled}
+use Rattle.endings.specs.Endings.{ascii}
 use Rattle.lines.proofs.Table.{fits}
 use Rattle.lines.proofs.words.resumed.Statement.{statement}
 use Rattle.lines.proofs.words.resumed.Tie as tie

@@ -7,7 +7,8 @@ use Prim.Native.Nat.{ℕ, _≤_}
 use native.Mathlib.Omega.{arith}
 use lib.ListN.{length}
 use Rattle.lines.specs.Line.{Holds}
-use Rattle.lines.specs.Words.{filled, ascii, table, wordsIn}
+use Rattle.lines.specs.Words.{filled, table, wordsIn}
+use Rattle.endings.specs.Endings.{ascii}
 use Rattle.lines.proofs.Table.{words-fit, other-fit, line-there, none-there}
 use Rattle.lines.proofs.words.worded.Statement.{statement}
 use Rattle.lines.proofs.words.worded.Tie as tie
