@@ -14,7 +14,7 @@ abbrev pub clean : ℕ → ℕ
 clean byte = cond (ltb byte 32 || eqb byte 127) 63 byte
 
 -- a text in bytes
-abbrev ascii : String → List ℕ
+abbrev pub ascii : String → List ℕ
 ascii «end» = []
 ascii (c then text) = code c ∷ ascii text
 
@@ -24,10 +24,10 @@ sameBytes [] (y ∷ ys) = false
 sameBytes (x ∷ xs) [] = false
 sameBytes (x ∷ xs) (y ∷ ys) = eqb x y && sameBytes xs ys
 
-abbrev isHelp : List ℕ → Bool
+abbrev pub isHelp : List ℕ → Bool
 isHelp argument = sameBytes argument (ascii "-h") || sameBytes argument (ascii "--help")
 
-abbrev isVersion : List ℕ → Bool
+abbrev pub isVersion : List ℕ → Bool
 isVersion argument = sameBytes argument (ascii "--version")
 
 -- what begins with `-` is no folder

@@ -99,7 +99,9 @@ module _ (j p : List ℕ) (kind : ℕ) where
   by-readings (JournalRead.Refused n place) b ea eb k = each (Read kind place) (checkNumbers Format.Journal) (journal-worded kind place) n (journal-number j ea)
   by-readings (JournalRead.Readable run count) (PlanRead.Refused n place) ea eb k =
       each (Read kind place) (checkNumbers Format.Plan) (plan-worded kind place) n (plan-number p eb)
-  by-readings (JournalRead.Readable run count) (PlanRead.Readable capability steps) ea eb k = kept-worded capability (stepsOf p) (recordsOf j) (verdictBy (JournalRead.Readable run count) (PlanRead.Readable capability steps) j p) kind (k .counts)
+  by-readings (JournalRead.Readable run count) (PlanRead.Readable capability steps) ea eb k =
+      let answer = verdictBy (JournalRead.Readable run count) (PlanRead.Readable capability steps) j p in
+      kept-worded capability (stepsOf p) (recordsOf j) answer kind (k .counts)
 
   pub worded : Worded (verdictRule j p) kind
   unfolding verdictRule

@@ -40,7 +40,7 @@ returns c =
 
 pub put-spec : {M : Type 1} → statement M
 put-spec =
-    let shown = tie.spec
-    Inv-loop μ-loop (λ c κs. search needs) loop-holds (λ c. search needs) (λ c. search needs) (λ c. search needs)
-    (λ c. search needs) loop-again (λ c. search needs) returns in
+    let shown = tie.spec Inv-loop μ-loop
+    (λ c κs. search needs) loop-holds (λ c. search needs) (λ c. search needs) (λ c. search needs) (λ c. search needs) loop-again
+    (λ c. search needs) returns in
     tie.close shown

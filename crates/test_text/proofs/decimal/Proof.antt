@@ -28,16 +28,16 @@ returns-2 c =
     let digit = c .before .before .hex-digit in
     let loop = c .before .before .before .before .before .loop in
     let args = c .before .before .before .before .before .before .before .args in
-    sym (decimal-over (loop .value) (digit .result) (args .s .now) (loop .at) (omega arith) (digit .ensures .0) (omega arith) (omega arith))
-    ∙ loop .inv .0
+    sym (decimal-over (loop .value) (digit .result) (args .s .now) (loop .at) (omega arith) (digit .ensures .0) (omega arith) (omega arith)) ∙
+    loop .inv .0
 
 loop-again : tie.Need-loop-again Inv-loop μ-loop
 loop-again c =
     let digit = c .before .before .hex-digit in
     let loop = c .before .before .before .before .before .loop in
     let args = c .before .before .before .before .before .before .before .args in (
-      sym (decimal-again (loop .value) (digit .result) (args .s .now) (loop .at) (omega arith) (digit .ensures .0) (omega arith) (omega arith))
-          ∙ loop .inv .0,
+      sym (decimal-again (loop .value) (digit .result) (args .s .now) (loop .at) (omega arith) (digit .ensures .0) (omega arith) (omega arith)) ∙
+          loop .inv .0,
       omega arith,
       omega arith,
     )
@@ -50,6 +50,7 @@ returns-3 c =
 pub decimal-spec : {M : Type 1} → statement M
 decimal-spec =
     let shown =
-    tie.spec Inv-loop μ-loop (λ c. search needs) (λ c. search needs) (λ c κs. search needs) (λ c. search needs) returns
-    (λ c. search needs) (λ c. search needs) returns-2 (λ c. search needs) (λ c. search needs) loop-again returns-3 in
+    tie.spec Inv-loop μ-loop
+    (λ c. search needs) (λ c. search needs) (λ c κs. search needs) (λ c. search needs) returns (λ c. search needs)
+    (λ c. search needs) returns-2 (λ c. search needs) (λ c. search needs) loop-again returns-3 in
     tie.close shown

@@ -78,13 +78,13 @@ returns-3 : tie.Need-returns-3 Inv-loop μ-loop
 returns-3 c =
     let loop = c .before .loop in
     let args = c .before .before .before .before .before .args in
-    ap (λ (left : List _). sized (args .room) (loop .len) (items left)) (sym (drop-of-length-le (args .line .now) {i = loop .at} (omega arith)))
-    ∙ loop .inv .0
+    ap (λ (left : List _). sized (args .room) (loop .len) (items left)) (sym (drop-of-length-le (args .line .now) {i = loop .at} (omega arith))) ∙
+    loop .inv .0
 
 pub file-len-spec : {M : Type 1} → statement M
 file-len-spec =
     let shown =
-    tie.spec Inv-loop μ-loop (λ c κs. search needs) returns loop-holds (λ c. search needs) (λ c κs. search needs)
-    (λ c. search needs) (λ c. search needs) (λ c. search needs) (λ c. search needs) (λ c κs. search needs) returns-2 add-len
-    (λ c. search needs) loop-again returns-3 in
+    tie.spec Inv-loop μ-loop
+    (λ c κs. search needs) returns loop-holds (λ c. search needs) (λ c κs. search needs) (λ c. search needs) (λ c. search needs)
+    (λ c. search needs) (λ c. search needs) (λ c κs. search needs) returns-2 add-len (λ c. search needs) loop-again returns-3 in
     tie.close shown

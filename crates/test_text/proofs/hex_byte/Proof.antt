@@ -21,6 +21,7 @@ returns-3 c =
 pub hex-byte-spec : {M : Type 1} → statement M
 hex-byte-spec =
     let shown =
-    tie.spec (λ c κs. search needs) (λ c. search needs) (λ c κs. search needs) (λ c. search needs) returns returns-2
-    (λ c. search needs) (λ c. search needs) returns-3 in
+    tie.spec
+    (λ c κs. search needs) (λ c. search needs) (λ c κs. search needs) (λ c. search needs) returns returns-2 (λ c. search needs)
+    (λ c. search needs) returns-3 in
     tie.close shown

@@ -68,6 +68,7 @@ returns-4 c =
 pub item-len-spec : {M : Type 1} → statement M
 item-len-spec =
     let shown =
-    tie.spec (λ c κs. search needs) (λ c κs. search needs) returns slice-aggregate-paired (λ c κs. search needs) returns-2
+    tie.spec
+    (λ c κs. search needs) (λ c κs. search needs) returns slice-aggregate-paired (λ c κs. search needs) returns-2
     (λ c. search needs) returns-3 mul-result returns-4 in
     tie.close shown

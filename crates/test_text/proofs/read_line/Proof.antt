@@ -55,6 +55,7 @@ returns-3 c =
 pub read-line-spec : {M : Type 1} → statement M
 read-line-spec =
     let shown =
-    tie.spec returns (λ c κs. search needs) (λ c. search needs) (λ c. search needs) (λ c. search needs) (λ c κs. search needs)
+    tie.spec
+    returns (λ c κs. search needs) (λ c. search needs) (λ c. search needs) (λ c. search needs) (λ c κs. search needs)
     (λ c κs. search needs) (λ c. search needs) (λ c. search needs) returns-2 (λ c. search needs) returns-3 in
     tie.close shown

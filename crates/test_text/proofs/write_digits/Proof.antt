@@ -61,7 +61,7 @@ returns c =
 pub write-digits-spec : {M : Type 1} → statement M
 write-digits-spec =
     let shown =
-    tie.spec Inv-loop μ-loop loop-holds (λ c. search needs) (λ c. search needs) (λ c. search needs) (λ c. search needs)
-    (λ c κs. search needs) cast-room slice-write-room (λ c. search needs) (λ c. search needs) (λ c. search needs) loop-again
-    (λ c. search needs) returns in
+    tie.spec Inv-loop μ-loop
+    loop-holds (λ c. search needs) (λ c. search needs) (λ c. search needs) (λ c. search needs) (λ c κs. search needs) cast-room
+    slice-write-room (λ c. search needs) (λ c. search needs) (λ c. search needs) loop-again (λ c. search needs) returns in
     tie.close shown

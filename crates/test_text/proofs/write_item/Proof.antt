@@ -73,6 +73,7 @@ returns c =
 pub write-item-spec : {M : Type 1} → statement M
 write-item-spec =
     let shown =
-    tie.spec Inv-loop μ-loop (λ c κs. search needs) (λ c κs. search needs) loop-holds slice-aggregate-write-digits
-    write-digits-requires (λ c. search needs) (λ c. search needs) loop-again (λ c. search needs) returns in
+    tie.spec Inv-loop μ-loop
+    (λ c κs. search needs) (λ c κs. search needs) loop-holds slice-aggregate-write-digits write-digits-requires
+    (λ c. search needs) (λ c. search needs) loop-again (λ c. search needs) returns in
     tie.close shown

@@ -79,6 +79,7 @@ returns c =
 pub write-items-spec : {M : Type 1} → statement M
 write-items-spec =
     let shown =
-    tie.spec Inv-loop μ-loop loop-holds (λ c. search needs) (λ c κs. search needs) (λ c. search needs) (λ c. search needs)
-    (λ c. search needs) write-item-requires (λ c. search needs) loop-again (λ c. search needs) returns in
+    tie.spec Inv-loop μ-loop
+    loop-holds (λ c. search needs) (λ c κs. search needs) (λ c. search needs) (λ c. search needs) (λ c. search needs)
+    write-item-requires (λ c. search needs) loop-again (λ c. search needs) returns in
     tie.close shown

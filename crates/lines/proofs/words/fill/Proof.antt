@@ -58,8 +58,8 @@ loop-again c =
     let len = ap (λ (l : Line). l .len) (c .show .ensures) ∙ written-len (at .loop .line) (shown (args .n) byte) in (
       omega arith,
       omega (arith, ap length on, length-append (shown (args .n) byte) rest, len),
-      at .loop .inv .2 ∙ ap (written (at .loop .line)) on ∙ written-append (at .loop .line) (shown (args .n) byte) rest
-          ∙ ap (λ (l : Line). written l rest) (sym (c .show .ensures)),
+      at .loop .inv .2 ∙ ap (written (at .loop .line)) on ∙ written-append (at .loop .line) (shown (args .n) byte) rest ∙
+          ap (λ (l : Line). written l rest) (sym (c .show .ensures)),
     )
 
 returns-2 : tie.Need-returns-2 Inv-loop μ-loop
@@ -73,5 +73,6 @@ returns-2 c =
 pub fill-spec : {M : Type 1} → statement M
 fill-spec =
     tie.close
-    (tie.spec Inv-loop μ-loop (λ c κs. search needs) loop-holds (λ c. search needs) returns show-requires (λ c. search needs)
-    (λ c. search needs) loop-again returns-2)
+    (tie.spec Inv-loop μ-loop
+    (λ c κs. search needs) loop-holds (λ c. search needs) returns show-requires (λ c. search needs) (λ c. search needs) loop-again
+    returns-2)

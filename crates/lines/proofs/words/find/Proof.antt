@@ -51,5 +51,5 @@ returns-2 c =
 pub find-spec : {M : Type 1} → statement M
 find-spec =
     tie.close
-    (tie.spec Inv-loop μ-loop loop-holds is-of-requires add-result returns (λ c κs. search needs) (λ c. search needs) loop-again
-    returns-2)
+    (tie.spec Inv-loop μ-loop
+    loop-holds is-of-requires add-result returns (λ c κs. search needs) (λ c. search needs) loop-again returns-2)

@@ -23,5 +23,6 @@ returns-2 c = rw (sym (c .before .before .before .still-to-run .ensures) ∙ c .
 pub resumed-spec : {M : Type 1} → statement M
 resumed-spec =
     tie.close
-    (tie.spec (λ c κs. search needs) (λ c. search needs) (λ c κs. yes-fit (c .before .before .before .args .stop) (omega arith)) (λ c. search needs)
-    (λ c κs. omega arith) returns returns-2)
+    (tie.spec
+    (λ c κs. search needs) (λ c. search needs) (λ c κs. yes-fit (c .before .before .before .args .stop) (omega arith))
+    (λ c. search needs) (λ c κs. omega arith) returns returns-2)

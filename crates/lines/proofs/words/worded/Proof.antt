@@ -46,5 +46,6 @@ returns-2 c =
 pub worded-spec : {M : Type 1} → statement M
 worded-spec =
     tie.close
-    (tie.spec (λ c κs. search needs) (λ c. search needs) (λ c. search needs) (λ c. search needs) fill-requires
-    (λ c. search needs) fill-requires-2 returns returns-2)
+    (tie.spec
+    (λ c κs. search needs) (λ c. search needs) (λ c. search needs) (λ c. search needs) fill-requires (λ c. search needs)
+    fill-requires-2 returns returns-2)
