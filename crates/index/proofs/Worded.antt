@@ -20,6 +20,7 @@ use Rattle.histories.specs.declared.Answer.{Answer}
 use Rattle.histories.specs.declared.Answer.the-variants as Answer
 use Rattle.endings.specs.declared.Ending.{Ending}
 use Rattle.endings.specs.declared.Ending.the-variants as Ending
+use Rattle.histories.specs.Histories.{openerKinds}
 use Rattle.histories.specs.Checklist.{refusalNumbers, refusalDivergences, divergencesOf}
 use Rattle.histories.specs.Promise.{Promise, RefusedCount, Counted}
 use Rattle.histories.proofs.Numbers.{Each, each}
@@ -82,7 +83,7 @@ replayed kind place = (
   (
     each (λ (d : ℕ). T (hasRow table 23 d)) (0 ∷ []) (tt, tt),
     (
-      λ d t. malformed (eqb place 0) (eqb kind 2 || eqb kind 5),
+      λ d t. malformed (eqb place 0) (among openerKinds kind),
       (each (λ (d : ℕ). T (hasRow table 25 d)) (0 ∷ []) (tt, tt), (λ d t. beyond (eqb kind 9), tt)),
     ),
   ),

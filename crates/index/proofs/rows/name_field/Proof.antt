@@ -50,5 +50,6 @@ returns c =
 pub name-field-spec : {M : Type 1} → statement M
 name-field-spec =
     tie.close
-    (tie.spec Inv-loop μ-loop loop-holds (λ c. search needs) (λ c κs. search needs) slice-write-room (λ c. search needs)
-    (λ c. search needs) loop-again slice-write-room-2 add-result (λ c. search needs) returns)
+    (tie.spec Inv-loop μ-loop
+    loop-holds (λ c. search needs) (λ c κs. search needs) slice-write-room (λ c. search needs) (λ c. search needs) loop-again
+    slice-write-room-2 add-result (λ c. search needs) returns)
