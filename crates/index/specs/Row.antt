@@ -1,4 +1,4 @@
--- The row of a run folder: its name, may it be resumed and at which step, the verdict's line, and plain words.
+-- The row of a run folder: its name, whether it may be resumed and at which step, the verdict's line, and plain words.
 use Prim.Native.Nat.{ℕ, _+_, _-_}
 use mathlib.Core.Bool.{cond}
 use mathlib.Core.List.{List, [], _∷_, _++_}
@@ -23,7 +23,7 @@ cleaned (byte ∷ bytes) = clean byte ∷ cleaned bytes
 abbrev pub ended : List ℕ → ℕ → List ℕ
 ended text last = text ++ (last ∷ [])
 
--- the kind of the record before a place; before the first there is none
+-- the kind of the record before a place; 0 before the first record
 abbrev pub kindBefore : List ℕ → ℕ → ℕ
 kindBefore journal place = cond (eqb place 0) 0 (kindIn journal (place - 1))
 

@@ -93,7 +93,7 @@ fn answer_fields(room: &mut [u8], at: usize, answer: Answer, kind: u8) -> usize
     words_field(room, third, answer, kind)
 }
 
-// The kind of the record before a place; before the first there is none.
+// The kind of the record before a place; 0 before the first record.
 fn kind_before(journal: &[u8], place: u64) -> u8
     ensures { λ r. ⌜ r ≡ kindBefore (now (journal .entry)) place ⌝ }
 {

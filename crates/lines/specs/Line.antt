@@ -10,7 +10,7 @@ use Rattle.histories.specs.declared.Answer.the-variants as Answer
 use Rattle.endings.specs.Endings.{ascii, endingWord}
 use Rattle.lines.specs.declared.Line.{Line}
 
--- a number's digits, at most so many: before the last one those of a tenth of it, where that is not 0
+-- a number's digits, at most `most` of them: those of the number divided by ten, where that is not 0, then the last one
 abbrev pub digits : ℕ → ℕ → List ℕ
 digits zero n = []
 digits (suc most) n = cond (ltb n 10) [] (digits most (n / 10)) ++ ((48 + n % 10) ∷ [])

@@ -103,7 +103,7 @@ wordsOf (Answer.Ok ending stop records calls) kind = filled stop (ascii (wordsIn
 wordsOf (Answer.No number place divergence calls) kind =
     filled place (ascii (wordsIn table number (detailOf number place divergence kind)))
 
--- may the run be resumed, and at which step: where one is still to run
+-- whether the run may be resumed, and at which step: it may where a step is still to run
 unfoldable pub resumeOf : Answer → List ℕ
 resumeOf (Answer.Ok ending stop records calls) = filled stop (ascii (cond (stillToRun ending) "yes, step #" "no"))
 resumeOf (Answer.No number place divergence calls) = ascii "no"

@@ -1,7 +1,7 @@
 // Prints the verdict on the files run.jnl and run.pln of a folder, as one line (01, "`verdict` reads"): of the folder that it is
 // given, or of the one that it is run in.
 //
-// Reading and printing are tested; no contract can speak of them. The line between them is proved.
+// No contract can say what is read and printed: that is tested. The line that is printed for what was read is proved.
 ghost use Rattle.io.specs.Counts.{Counts};
 ghost use Rattle.lines.specs.Line.{lineOf, Holds};
 ghost use Rattle.resume.specs.Verdict.{verdictRule};
