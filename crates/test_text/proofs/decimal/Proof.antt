@@ -16,26 +16,33 @@ Inv-loop s at₀ value₀ at value = (decimalFrom value (drop at s) ≡ decimalF
 abbrev μ-loop : tie.MeasureT-loop
 μ-loop s at₀ value₀ at value = length s - at
 
+-- the places of the code, each from the next one back
+abbrev loop-of : tie.After-hex-digit Inv-loop μ-loop → tie.At-loop Inv-loop μ-loop
+loop-of c = c .before .before .before
+
+abbrev start-of : tie.At-loop Inv-loop μ-loop → tie.Start Inv-loop μ-loop
+start-of c = c .before .before
+
 returns : tie.Need-returns Inv-loop μ-loop
 returns c =
     let digit = c .before .hex-digit in
-    let loop = c .before .before .before .before .loop in
-    let args = c .before .before .before .before .before .before .args in
+    let loop = loop-of (c .before) .loop in
+    let args = start-of (loop-of (c .before)) .args in
     sym (decimal-other (loop .value) (digit .result) (args .s .now) (loop .at) (omega arith) (digit .ensures .0) (omega arith)) ∙ loop .inv .0
 
 returns-2 : tie.Need-returns-2 Inv-loop μ-loop
 returns-2 c =
     let digit = c .before .before .hex-digit in
-    let loop = c .before .before .before .before .before .loop in
-    let args = c .before .before .before .before .before .before .before .args in
+    let loop = loop-of (c .before .before) .loop in
+    let args = start-of (loop-of (c .before .before)) .args in
     sym (decimal-over (loop .value) (digit .result) (args .s .now) (loop .at) (omega arith) (digit .ensures .0) (omega arith) (omega arith)) ∙
     loop .inv .0
 
 loop-again : tie.Need-loop-again Inv-loop μ-loop
 loop-again c =
     let digit = c .before .before .hex-digit in
-    let loop = c .before .before .before .before .before .loop in
-    let args = c .before .before .before .before .before .before .before .args in (
+    let loop = loop-of (c .before .before) .loop in
+    let args = start-of (loop-of (c .before .before)) .args in (
       sym (decimal-again (loop .value) (digit .result) (args .s .now) (loop .at) (omega arith) (digit .ensures .0) (omega arith) (omega arith)) ∙
           loop .inv .0,
       omega arith,

@@ -10,6 +10,16 @@ use Rattle.test_text.proofs.Read.{line-past, none-past, line-here, line
 use Rattle.test_text.proofs.read_line.Statement.{statement}
 use Rattle.test_text.proofs.read_line.Tie as tie
 
+-- the places of the code, each from the next one back
+abbrev first-of : tie.After-read-file → tie.After-first
+first-of c = c .before .before
+
+abbrev find-of : tie.After-first → tie.After-find
+find-of c = c .before .before
+
+abbrev start-of : tie.After-find → tie.Start
+start-of c = c .before .before .before .before
+
 returns : tie.Need-returns
 returns c =
     let args = c .before .before .before .args in
@@ -21,9 +31,9 @@ returns c =
 returns-2 : tie.Need-returns-2
 returns-2 c =
     let file = c .before .before .before .read-file in
-    let first = c .before .before .before .before .before .first in
-    let end = c .before .before .before .before .before .before .before .find in
-    let args = c .before .before .before .before .before .before .before .before .before .before .before .args in
+    let first = first-of (c .before .before .before) .first in
+    let end = find-of (first-of (c .before .before .before)) .find in
+    let args = (start-of (find-of (first-of (c .before .before .before)))) .args in
     let text = args .text .now in
     let room = args .room .now in
     let here = line-here text (args .at) (length room) (first .result) (end .result) (file .result) (end .ensures .0) in (
@@ -38,9 +48,9 @@ returns-2 c =
 returns-3 : tie.Need-returns-3
 returns-3 c =
     let file = c .before .before .before .read-file in
-    let first = c .before .before .before .before .before .first in
-    let end = c .before .before .before .before .before .before .before .find in
-    let args = c .before .before .before .before .before .before .before .before .before .before .before .args in
+    let first = first-of (c .before .before .before) .first in
+    let end = find-of (first-of (c .before .before .before)) .find in
+    let args = (start-of (find-of (first-of (c .before .before .before)))) .args in
     let text = args .text .now in
     let room = args .room .now in
     let here = line-here text (args .at) (length room) (first .result) (end .result) (file .result) (end .ensures .0) in (

@@ -22,9 +22,13 @@ loop-holds c = let args = c .before .before .args in copied-none (args .room .no
 slice-write-room : tie.Need-slice-write-room Inv-loop μ-loop
 slice-write-room c = omega (arith, cleaned-length (c .before .before .before .before .before .before .args .name .now))
 
+-- the places of the code, each from the next one back
+abbrev start-of : tie.At-loop Inv-loop μ-loop → tie.Start Inv-loop μ-loop
+start-of c = c .before .before .before
+
 loop-again : tie.Need-loop-again Inv-loop μ-loop
 loop-again c =
-    let args = c .before .before .before .before .before .before .args in
+    let args = start-of (c .before .before .before) .args in
     let loop = c .before .before .before .loop in
     let name = args .name .now in
     copied-more (args .room .now) 0 (cleaned name) (loop .room) (loop .i) (loop .i) (c .clean .result) (loop .inv)
@@ -39,7 +43,7 @@ add-result c = omega (arith, cleaned-length (c .before .before .before .before .
 
 returns : tie.Need-returns Inv-loop μ-loop
 returns c =
-    let args = c .before .before .before .before .args in
+    let args = start-of (c .before) .args in
     let loop = c .before .loop in
     let name = args .name .now in
     let long = cleaned-length name in (

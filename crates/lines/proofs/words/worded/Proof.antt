@@ -13,10 +13,14 @@ use Rattle.lines.proofs.Table.{words-fit, other-fit, line-there, none-t
 use Rattle.lines.proofs.words.worded.Statement.{statement}
 use Rattle.lines.proofs.words.worded.Tie as tie
 
+-- the places of the code, each from the next one back
+abbrev start-of : tie.After-find → tie.Start
+start-of c = c .before .before
+
 fill-requires : tie.Need-fill-requires
 fill-requires c κs =
     let find = c .before .before .find in
-    let args = c .before .before .before .before .args in
+    let args = start-of (c .before .before) .args in
     let words = ascii (wordsIn table (args .number) (args .detail)) in
     omega (
       arith,
@@ -30,7 +34,7 @@ fill-requires-2 c κs = other-fit (c .before .before .before .before .args .n) (
 returns : tie.Need-returns
 returns c =
     let find = c .before .before .before .find in
-    let args = c .before .before .before .before .before .args in
+    let args = start-of (c .before .before .before) .args in
     let words = ascii (wordsIn table (args .number) (args .detail)) in
     subst (λ (l : List ℕ). Holds (c .fill .result) (filled (args .n) l))
     (line-there (args .text .now) (find .result) words (find .ensures .0) (omega arith)) (c .fill .ensures)
@@ -38,7 +42,7 @@ returns c =
 returns-2 : tie.Need-returns-2
 returns-2 c =
     let find = c .before .before .before .find in
-    let args = c .before .before .before .before .before .args in
+    let args = start-of (c .before .before .before) .args in
     let words = ascii (wordsIn table (args .number) (args .detail)) in
     subst (λ (l : List ℕ). Holds (c .fill2 .result) (filled (args .n) l))
     (none-there (args .text .now) (find .result) words (find .ensures .0) (omega arith)) (c .fill2 .ensures)
