@@ -138,14 +138,9 @@ fn telling_kind(journal: &[u8], plan: &[u8], answer: Answer) -> u8
             ending,
             stop,
             records,
-            calls,
+            ..
         } => ending_kind(journal, plan, ending, stop, records),
-        Answer::No {
-            number,
-            place,
-            divergence,
-            calls,
-        } => refused_kind(journal, number, place),
+        Answer::No { number, place, .. } => refused_kind(journal, number, place),
     }
 }
 

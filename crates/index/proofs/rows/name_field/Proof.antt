@@ -20,7 +20,9 @@ loop-holds : tie.Need-loop-holds Inv-loop μ-loop
 loop-holds c = let args = c .before .before .args in copied-none (args .room .now) 0 (cleaned (args .name .now))
 
 slice-write-room : tie.Need-slice-write-room Inv-loop μ-loop
-slice-write-room c = omega (arith, cleaned-length (c .before .before .before .before .before .before .args .name .now))
+slice-write-room c =
+    let args = c .before .before .before .before .before .before .args in
+    omega (arith, cleaned-length (args .name .now))
 
 -- the places of the code, each from the next one back
 abbrev start-of : tie.At-loop Inv-loop μ-loop → tie.Start Inv-loop μ-loop
@@ -36,10 +38,14 @@ loop-again c =
     (c .clean .ensures ∙ sym (cleaned-at name (loop .i) (omega arith)))
 
 slice-write-room-2 : tie.Need-slice-write-room-2 Inv-loop μ-loop
-slice-write-room-2 c = omega (arith, cleaned-length (c .before .before .before .before .args .name .now))
+slice-write-room-2 c =
+    let args = c .before .before .before .before .args in
+    omega (arith, cleaned-length (args .name .now))
 
 add-result : tie.Need-add-result Inv-loop μ-loop
-add-result c = omega (arith, cleaned-length (c .before .before .before .before .args .name .now))
+add-result c =
+    let args = c .before .before .before .before .args in
+    omega (arith, cleaned-length (args .name .now))
 
 returns : tie.Need-returns Inv-loop μ-loop
 returns c =

@@ -29,7 +29,9 @@ fill-requires c κs =
     )
 
 fill-requires-2 : tie.Need-fill-requires-2
-fill-requires-2 c κs = other-fit (c .before .before .before .before .args .n) (omega arith)
+fill-requires-2 c κs =
+    let args = c .before .before .before .before .args in
+    other-fit (args .n) (omega arith)
 
 returns : tie.Need-returns
 returns c =
