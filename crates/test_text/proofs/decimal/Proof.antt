@@ -26,23 +26,26 @@ start-of c = c .before .before
 returns : tie.Need-returns Inv-loop μ-loop
 returns c =
     let digit = c .before .hex-digit in
-    let loop = loop-of (c .before) .loop in
-    let args = start-of (loop-of (c .before)) .args in
+    let at-loop = loop-of (c .before) in
+    let loop = at-loop .loop in
+    let args = start-of at-loop .args in
     sym (decimal-other (loop .value) (digit .result) (args .s .now) (loop .at) (omega arith) (digit .ensures .0) (omega arith)) ∙ loop .inv .0
 
 returns-2 : tie.Need-returns-2 Inv-loop μ-loop
 returns-2 c =
     let digit = c .before .before .hex-digit in
-    let loop = loop-of (c .before .before) .loop in
-    let args = start-of (loop-of (c .before .before)) .args in
+    let at-loop = loop-of (c .before .before) in
+    let loop = at-loop .loop in
+    let args = start-of at-loop .args in
     sym (decimal-over (loop .value) (digit .result) (args .s .now) (loop .at) (omega arith) (digit .ensures .0) (omega arith) (omega arith)) ∙
     loop .inv .0
 
 loop-again : tie.Need-loop-again Inv-loop μ-loop
 loop-again c =
     let digit = c .before .before .hex-digit in
-    let loop = loop-of (c .before .before) .loop in
-    let args = start-of (loop-of (c .before .before)) .args in (
+    let at-loop = loop-of (c .before .before) in
+    let loop = at-loop .loop in
+    let args = start-of at-loop .args in (
       sym (decimal-again (loop .value) (digit .result) (args .s .now) (loop .at) (omega arith) (digit .ensures .0) (omega arith) (omega arith)) ∙
           loop .inv .0,
       omega arith,

@@ -50,18 +50,22 @@ loop-holds c =
 returns-2 : tie.Need-returns-2 Inv-loop μ-loop
 returns-2 c =
     let size = c .before .item-len in
-    let end = find2-of (c .before) .find2 in
-    let loop = loop-of (find2-of (c .before)) .loop in
-    let args = (start-of (loop-of (find2-of (c .before)))) .args in
+    let at-find2 = find2-of (c .before) in
+    let end = at-find2 .find2 in
+    let at-loop = loop-of at-find2 in
+    let loop = at-loop .loop in
+    let args = start-of at-loop .args in
     sym (turn-stops (args .line .now) (loop .at) (end .result) (omega arith) (loop .inv .1) (end .ensures .0) (args .room) (loop .len)
     (omega arith) (sym (size .ensures) ∙ c .if2 .taken)) ∙ loop .inv .0
 
 add-len : tie.Need-add-len Inv-loop μ-loop
 add-len c =
     let size = c .before .item-len in
-    let end = find2-of (c .before) .find2 in
-    let loop = loop-of (find2-of (c .before)) .loop in
-    let args = (start-of (loop-of (find2-of (c .before)))) .args in
+    let at-find2 = find2-of (c .before) in
+    let end = at-find2 .find2 in
+    let at-loop = loop-of at-find2 in
+    let loop = at-loop .loop in
+    let args = start-of at-loop .args in
     omega (
       arith,
       turn-goes-on (args .line .now) (loop .at) (end .result) (omega arith) (loop .inv .1) (end .ensures .0) (args .room) (loop .len)
@@ -71,9 +75,11 @@ add-len c =
 loop-again : tie.Need-loop-again Inv-loop μ-loop
 loop-again c =
     let size = c .before .item-len in
-    let end = find2-of (c .before) .find2 in
-    let loop = loop-of (find2-of (c .before)) .loop in
-    let args = (start-of (loop-of (find2-of (c .before)))) .args in
+    let at-find2 = find2-of (c .before) in
+    let end = at-find2 .find2 in
+    let at-loop = loop-of at-find2 in
+    let loop = at-loop .loop in
+    let args = start-of at-loop .args in
     let line = args .line .now in
     let turn =
     turn-goes-on line (loop .at) (end .result) (omega arith) (loop .inv .1) (end .ensures .0) (args .room) (loop .len) (size .result)

@@ -11,8 +11,8 @@ use Rattle.test_text.proofs.item_len.Statement.{statement}
 use Rattle.test_text.proofs.item_len.Tie as tie
 
 -- the places of the code, each from the next one back
-abbrev times-of-of : tie.After-paired → tie.After-times-of
-times-of-of c = c .before .before .before
+abbrev times-place : tie.After-paired → tie.After-times-of
+times-place c = c .before .before .before
 
 abbrev start-of : tie.After-find → tie.Start
 start-of c = c .before .before
@@ -34,9 +34,10 @@ slice-aggregate-paired c =
 returns-2 : tie.Need-returns-2
 returns-2 c =
     let digits = c .before .paired in
-    let times = times-of-of (c .before) .times-of in
-    let star = ((times-of-of (c .before)) .before) .find in
-    let args = (start-of ((times-of-of (c .before)) .before)) .args in
+    let at-times = times-place (c .before) in
+    let times = at-times .times-of in
+    let star = at-times .before .find in
+    let args = start-of (at-times .before) .args in
     let item = args .item .now in
     let unpaired = sym (digits .ensures) ∙ not-true _ (c .if2 .taken) in
     no-length item (args .room) (item-unpaired item (star .result) (times .result) (omega arith) (times .ensures) unpaired)
@@ -44,9 +45,10 @@ returns-2 c =
 returns-3 : tie.Need-returns-3
 returns-3 c =
     let digits = c .before .before .paired in
-    let times = times-of-of (c .before .before) .times-of in
-    let star = ((times-of-of (c .before .before)) .before) .find in
-    let args = (start-of ((times-of-of (c .before .before)) .before)) .args in
+    let at-times = times-place (c .before .before) in
+    let times = at-times .times-of in
+    let star = at-times .before .find in
+    let args = start-of (at-times .before) .args in
     let item = args .item .now in
     let paired = sym (digits .ensures) ∙ not-false _ (c .before .if2 .left) in
     let size = item-size item (star .result) (times .result) (omega arith) (times .ensures) paired in
@@ -55,17 +57,19 @@ returns-3 c =
 
 mul-result : tie.Need-mul-result
 mul-result c =
-    let times = times-of-of (c .before .before) .times-of in
-    let star = ((times-of-of (c .before .before)) .before) .find in
-    let args = (start-of ((times-of-of (c .before .before)) .before)) .args in
+    let at-times = times-place (c .before .before) in
+    let times = at-times .times-of in
+    let star = at-times .before .find in
+    let args = start-of (at-times .before) .args in
     omega (arith, fits-room (star .result / 2) (args .room) (times .result) (omega arith) (c .if3 .left))
 
 returns-4 : tie.Need-returns-4
 returns-4 c =
     let digits = c .before .before .paired in
-    let times = times-of-of (c .before .before) .times-of in
-    let star = ((times-of-of (c .before .before)) .before) .find in
-    let args = (start-of ((times-of-of (c .before .before)) .before)) .args in
+    let at-times = times-place (c .before .before) in
+    let times = at-times .times-of in
+    let star = at-times .before .find in
+    let args = start-of (at-times .before) .args in
     let item = args .item .now in
     let paired = sym (digits .ensures) ∙ not-false _ (c .before .if2 .left) in
     let size = item-size item (star .result) (times .result) (omega arith) (times .ensures) paired in

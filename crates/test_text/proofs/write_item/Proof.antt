@@ -39,15 +39,17 @@ loop-holds c =
 
 slice-aggregate-write-digits : tie.Need-slice-aggregate-write-digits Inv-loop μ-loop
 slice-aggregate-write-digits c =
-    let star = find-of (c .before .before) .find in
-    let args = start-of (find-of (c .before .before)) .args in
+    let at-find = find-of (c .before .before) in
+    let star = at-find .find in
+    let args = start-of at-find .args in
     sym (length-take-le (star .result) (args .item .now) (omega arith))
 
 write-digits-requires : tie.Need-write-digits-requires Inv-loop μ-loop
 write-digits-requires c κs =
     let loop = c .before .before .before .loop in
-    let star = find-of (c .before .before .before) .find in
-    let start = start-of (find-of (c .before .before .before)) in
+    let at-find = find-of (c .before .before .before) in
+    let star = at-find .find in
+    let start = start-of at-find in
     let item = start .args .item .now in
     let bytes = hexBytes (take (star .result) item) in (
       ap paired (digits-first item (star .result) (omega arith)) ∙ start .pre .0,
@@ -58,8 +60,9 @@ loop-again : tie.Need-loop-again Inv-loop μ-loop
 loop-again c =
     let written = c .before .before .write-digits in
     let loop = c .before .before .before .before .before .before .loop in
-    let star = find-of (c .before .before .before .before .before .before) .find in
-    let start = start-of (find-of (c .before .before .before .before .before .before)) in
+    let at-find = find-of (c .before .before .before .before .before .before) in
+    let star = at-find .find in
+    let start = start-of at-find in
     let args = start .args in
     let bytes = hexBytes (take (star .result) (args .item .now)) in
     let more = copies-again (loop .left) bytes (omega arith) in
@@ -70,8 +73,9 @@ loop-again c =
 returns : tie.Need-returns Inv-loop μ-loop
 returns c =
     let loop = c .before .loop in
-    let star = find-of (c .before) .find in
-    let args = start-of (find-of (c .before)) .args in
+    let at-find = find-of (c .before) in
+    let star = at-find .find in
+    let args = start-of at-find .args in
     let bytes = hexBytes (take (star .result) (args .item .now)) in
     let none : loop .left ≡ 0 = omega arith in
     left-none (args .room .now) (args .from) (itemBytes (args .item .now)) (loop .room) (loop .at) (copies (loop .left) bytes) (loop .inv)

@@ -44,8 +44,9 @@ loop-holds c =
 write-item-requires : tie.Need-write-item-requires Inv-loop μ-loop
 write-item-requires c κs =
     let end = c .before .before .find in
-    let loop = loop-of (c .before .before) .loop in
-    let line = start-of (loop-of (c .before .before)) .args .line .now in
+    let at-loop = loop-of (c .before .before) in
+    let loop = at-loop .loop in
+    let line = start-of at-loop .args .line .now in
     let start = loop .at + 1 in
     let item = take (end .result - start) (drop start line) in (
       turn-right line (loop .at) (end .result) (omega arith) (loop .inv .1) (end .ensures .0) (loop .inv .2) .0,
@@ -60,8 +61,9 @@ loop-again : tie.Need-loop-again Inv-loop μ-loop
 loop-again c =
     let written = c .before .before .write-item in
     let end = c .before .before .before .before .before .find in
-    let loop = loop-of (c .before .before .before .before .before) .loop in
-    let args = start-of (loop-of (c .before .before .before .before .before)) .args in
+    let at-loop = loop-of (c .before .before .before .before .before) in
+    let loop = at-loop .loop in
+    let args = start-of at-loop .args in
     let line = args .line .now in
     let start = loop .at + 1 in
     let item = take (end .result - start) (drop start line) in

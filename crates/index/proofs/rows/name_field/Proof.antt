@@ -16,6 +16,10 @@ Inv-loop room₀ name i₀ room i = Copied room₀ 0 (cleaned name) room i
 abbrev μ-loop : tie.MeasureT-loop
 μ-loop room₀ name i₀ room i = length name - i
 
+-- the places of the code, each from the next one back
+abbrev start-of : tie.At-loop Inv-loop μ-loop → tie.Start Inv-loop μ-loop
+start-of c = c .before .before .before
+
 loop-holds : tie.Need-loop-holds Inv-loop μ-loop
 loop-holds c = let args = c .before .before .args in copied-none (args .room .now) 0 (cleaned (args .name .now))
 
@@ -23,10 +27,6 @@ slice-write-room : tie.Need-slice-write-room Inv-loop μ-loop
 slice-write-room c =
     let args = c .before .before .before .before .before .before .args in
     omega (arith, cleaned-length (args .name .now))
-
--- the places of the code, each from the next one back
-abbrev start-of : tie.At-loop Inv-loop μ-loop → tie.Start Inv-loop μ-loop
-start-of c = c .before .before .before
 
 loop-again : tie.Need-loop-again Inv-loop μ-loop
 loop-again c =

@@ -15,12 +15,12 @@ Inv-loop text number detail at₀ at = Left text at number detail
 abbrev μ-loop : tie.MeasureT-loop
 μ-loop text number detail at₀ at = length text - at
 
-loop-holds : tie.Need-loop-holds Inv-loop μ-loop
-loop-holds c = let args = c .before .args in begin (args .text .now) (args .number) (args .detail) (c .before .pre)
-
 -- the places of the code, each from the next one back
 abbrev start-of : tie.At-loop Inv-loop μ-loop → tie.Start Inv-loop μ-loop
 start-of c = c .before .before
+
+loop-holds : tie.Need-loop-holds Inv-loop μ-loop
+loop-holds c = let args = c .before .args in begin (args .text .now) (args .number) (args .detail) (c .before .pre)
 
 is-of-requires : tie.Need-is-of-requires Inv-loop μ-loop
 is-of-requires c κs =
