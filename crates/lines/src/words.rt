@@ -192,12 +192,17 @@ pub fn words_of(answer: Answer, kind: u8) -> Line
     ensures { λ r. ⌜ Holds r (wordsOf answer kind) ⌝ }
 {
     match answer {
-        Answer::Ok { ending, stop, .. } => said(0, ending_detail(ending, kind), stop),
+        Answer::Ok {
+            ending,
+            stop,
+            records,
+            calls,
+        } => said(0, ending_detail(ending, kind), stop),
         Answer::No {
             number,
             place,
             divergence,
-            ..
+            calls,
         } => said(number, detail_of(number, place, divergence, kind), place),
     }
 }
@@ -207,8 +212,18 @@ pub fn resume_of(answer: Answer) -> Line
     ensures { λ r. ⌜ Holds r (resumeOf answer) ⌝ }
 {
     match answer {
-        Answer::Ok { ending, stop, .. } => resumed(ending, stop),
-        Answer::No { .. } => fill(b"no", 0),
+        Answer::Ok {
+            ending,
+            stop,
+            records,
+            calls,
+        } => resumed(ending, stop),
+        Answer::No {
+            number,
+            place,
+            divergence,
+            calls,
+        } => fill(b"no", 0),
     }
 }
 

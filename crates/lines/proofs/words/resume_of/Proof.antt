@@ -14,7 +14,7 @@ returns c = rw (c .before .before .answer .given .1) (c .resumed .ensures)
 
 returns-2 : tie.Need-returns-2
 unfolding resumeOf
-returns-2 c = rw (c .before .before .enum-told .given .1) (c .fill .ensures)
+returns-2 c = rw (c .before .before .before .answer2 .given .1) (c .fill .ensures)
 
 pub resume-of-spec : {M : Type 1} → statement M
 resume-of-spec =
