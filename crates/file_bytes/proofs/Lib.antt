@@ -1,2 +1,3 @@
 pub mod Putting
 pub mod Same
+pub mod Asking

@@ -5,7 +5,7 @@ use mathlib.Core.List.{List}
 use lib.ListN.{length, take, drop}
 
 -- n counts bytes at the start of the room, and what is beyond them keeps its values: 0 leaves the room as it was. The second part
--- follows from the first; who lends the bytes finds it here.
+-- follows from the first; callers that read the n bytes use it.
 pub record Loaded (before : List ℕ) (n : ℕ) (after : List ℕ) : Type 0 where
   pub fits : n ≤ length after
   pub counts : n ≡ length (take n after)

@@ -1,5 +1,7 @@
 -- Names: how a byte of one is shown, and what an argument asks for.
 use Prim.Native.Nat.{ℕ}
+use Prim.Native.Char.{code}
+use Prim.Native.String.{String, [] as «end», _∷_ as _then_}
 use mathlib.Core.Bool.{Bool, true, false, cond, _&&_, _||_}
 use mathlib.Core.List.{List, [], _∷_}
 use lib.Dec.{eqb, ltb}
@@ -11,19 +13,22 @@ use Rattle.file_bytes.specs.declared.names.Asked.the-variants as Asked
 abbrev pub clean : ℕ → ℕ
 clean byte = cond (ltb byte 32 || eqb byte 127) 63 byte
 
+-- a text in bytes
+abbrev pub ascii : String → List ℕ
+ascii «end» = []
+ascii (c then text) = code c ∷ ascii text
+
 abbrev pub sameBytes : List ℕ → List ℕ → Bool
 sameBytes [] [] = true
 sameBytes [] (y ∷ ys) = false
 sameBytes (x ∷ xs) [] = false
 sameBytes (x ∷ xs) (y ∷ ys) = eqb x y && sameBytes xs ys
 
--- `-h` and `--help`
-abbrev isHelp : List ℕ → Bool
-isHelp argument = sameBytes argument (45 ∷ 104 ∷ []) || sameBytes argument (45 ∷ 45 ∷ 104 ∷ 101 ∷ 108 ∷ 112 ∷ [])
+abbrev pub isHelp : List ℕ → Bool
+isHelp argument = sameBytes argument (ascii "-h") || sameBytes argument (ascii "--help")
 
--- `--version`
-abbrev isVersion : List ℕ → Bool
-isVersion argument = sameBytes argument (45 ∷ 45 ∷ 118 ∷ 101 ∷ 114 ∷ 115 ∷ 105 ∷ 111 ∷ 110 ∷ [])
+abbrev pub isVersion : List ℕ → Bool
+isVersion argument = sameBytes argument (ascii "--version")
 
 -- what begins with `-` is no folder
 unfoldable pub askedFor : List ℕ → Asked

@@ -2,7 +2,7 @@
 //
 // Owns: paths, opening, reading, closing; why the system refused, on standard error. Must not own: what the bytes mean.
 // Defends: a file that cannot be read, or whose reading fails, has 0 bytes (01, "a file that cannot be read counts as 0 bytes"),
-// and the lent room is then as it was. Of what is read no contract can say which bytes they are.
+// and the lent room is then as it was. No contract can say which bytes a file has.
 pub mod names;
 
 ghost use Prim.Native.Nat.{_≤_, min};
@@ -12,19 +12,22 @@ ghost use lib.Seq.{paste};
 ghost use Rattle.io.specs.Counts.{Counts};
 ghost use Rattle.file_bytes.specs.Loaded.{Loaded};
 
-// How many bytes of a folder's file stand at the start of room: at most 32,770, so that a file that is too long is seen to be.
-// 0 for a file that cannot be read.
+// The bytes that are read of a file: more than the longest file has, so that a longer one is seen to be too long.
+pub const ROOM: usize = 32770;
+
+// How many bytes of a folder's file stand at the start of room, at most `ROOM`. 0 for a file that cannot be read.
 pub fn contents(folder: &[u8], file: &[u8], room: &mut [u8]) -> usize
     ensures { λ r. ⌜ Loaded (now (room .entry)) r (now (room .exit)) ⌝ }
 {
     let mut path = [0u8; 4608];
     let len = path_of(folder, file, &mut path);
-    let mut own = [0u8; 32770];
+    let mut own = [0u8; ROOM];
     let n = read_file(&path[..len], &mut own);
     put(&own[..n], room)
 }
 
-// An argument at the start of name; of one that is longer than a path can be, the beginning. 0 where it is missing or empty.
+// Copies an argument to the start of name and returns its length. Of one that is longer than a path can be it copies the beginning.
+// 0 where it is missing or empty.
 pub fn argument(i: usize, name: &mut [u8]) -> usize
     ensures { λ r. ⌜ Loaded (now (name .entry)) r (now (name .exit)) ⌝ }
 {
@@ -36,7 +39,7 @@ pub fn argument(i: usize, name: &mut [u8]) -> usize
     put(&own[..n], name)
 }
 
-// A text at the start of a room, as far as both go.
+// Copies a text to the start of a room, as far as it fits, and returns how many bytes were copied.
 fn put(text: &[u8], room: &mut [u8]) -> usize
     ensures { λ r. ⌜ r ≡ min (length (now (text .entry))) (length (now (room .entry))) ⌝ }
     ensures { λ r. ⌜ now (room .exit) ≡ paste (now (room .entry)) 0 (now (text .entry)) r ⌝ }
@@ -58,8 +61,8 @@ fn least(a: usize, b: usize) -> usize
     if a < b { a } else { b }
 }
 
-// The path of a folder's file. The empty name is no folder, and its path is empty too. What does not fit is cut: it is then longer
-// than any path, and the system is asked for none.
+// The path of a folder's file. The empty name is no folder, and its path is empty too. What does not fit is cut: the path
+// is then longer than the system allows, and no file is opened.
 fn path_of(folder: &[u8], file: &[u8], path: &mut [u8]) -> usize
     ensures { λ r. ⌜ Counts r (now (path .exit)) ⌝ }
 {
@@ -71,7 +74,7 @@ fn path_of(folder: &[u8], file: &[u8], path: &mut [u8]) -> usize
     append(path, name, file)
 }
 
-// A text from a place of a path on, as far as both go; where the next one begins.
+// Copies a text into a path from a place on, as far as it fits, and returns where the next text begins.
 fn append(path: &mut [u8], at: usize, text: &[u8]) -> usize
     requires { ⌜ at ≤ length (now path) ⌝ }
     ensures { λ r. ⌜ Counts r (now (path .exit)) ⌝ }
@@ -79,7 +82,7 @@ fn append(path: &mut [u8], at: usize, text: &[u8]) -> usize
     at + put(text, &mut path[at..])
 }
 
-// The bytes of a file; 0 where the system refuses it, and then its reason is said.
+// Reads a file and returns how many bytes it has. Where the system refuses it: 0, and the reason on standard error.
 fn read_file(path: &[u8], room: &mut [u8]) -> usize
     ensures { λ r. ⌜ Counts r (now (room .exit)) ⌝ }
 {

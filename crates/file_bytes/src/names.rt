@@ -78,7 +78,7 @@ pub(crate) fn refused(path: &[u8]) {
     os::fail(&shown[..n]);
 }
 
-// A name as it is shown, at the start of room, as far as both go.
+// Writes a name as it is shown to the start of room, as far as it fits.
 fn show(name: &[u8], room: &mut [u8]) -> usize
     ensures { λ r. ⌜ Counts r (now (room .exit)) ⌝ }
 {

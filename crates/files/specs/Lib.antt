@@ -5,3 +5,5 @@ pub mod Contents
 pub mod Encoding
 pub mod Told
 pub mod Kinds
+pub mod Private
+pub mod Standing

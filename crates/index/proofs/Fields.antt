@@ -11,7 +11,8 @@ use Rattle.lines.specs.declared.Line.{Line}
 use Rattle.lines.specs.Line.{Holds}
 use Rattle.lines.proofs.Laws.{held-len, held-front}
 use Rattle.file_bytes.specs.Names.{clean}
-use Rattle.index.specs.Row.{cleaned, ended, tellingKind, answerFields, fields, Fielded}
+use Rattle.index.specs.Row.{cleaned, ended, tellingKind, answerFields, fields}
+use Rattle.index.specs.Private.{Fielded}
 
 -- the first n bytes of a text stand at a place, and all else is as it was
 pub record Copied (before : List ℕ) (at : ℕ) (text after : List ℕ) (n : ℕ) : Type 0 where

@@ -20,6 +20,7 @@ use Rattle.histories.specs.declared.Answer.{Answer}
 use Rattle.histories.specs.declared.Answer.the-variants as Answer
 use Rattle.endings.specs.declared.Ending.{Ending}
 use Rattle.endings.specs.declared.Ending.the-variants as Ending
+use Rattle.histories.specs.Histories.{openerKinds}
 use Rattle.histories.specs.Checklist.{refusalNumbers, refusalDivergences, divergencesOf}
 use Rattle.histories.specs.Promise.{Promise, RefusedCount, Counted}
 use Rattle.histories.proofs.Numbers.{Each, each}
@@ -83,7 +84,7 @@ replayed kind place = (
   (
     each (λ (d : ℕ). T (hasRow table 23 d)) (0 ∷ []) (tt, tt),
     (
-      λ d t. malformed (eqb place 0) (eqb kind 2 || eqb kind 5),
+      λ d t. malformed (eqb place 0) (among openerKinds kind),
       (each (λ (d : ℕ). T (hasRow table 25 d)) (0 ∷ []) (tt, tt), (λ d t. beyond (eqb kind 9), tt)),
     ),
   ),
@@ -100,7 +101,9 @@ module _ (j p : List ℕ) (kind : ℕ) where
   by-readings (JournalRead.Refused n place) b ea eb k = each (Read kind place) (checkNumbers Format.Journal) (journal-worded kind place) n (journal-number j ea)
   by-readings (JournalRead.Readable run count) (PlanRead.Refused n place) ea eb k =
       each (Read kind place) (checkNumbers Format.Plan) (plan-worded kind place) n (plan-number p eb)
-  by-readings (JournalRead.Readable run count) (PlanRead.Readable capability steps) ea eb k = kept-worded capability (stepsOf p) (recordsOf j) (verdictBy (JournalRead.Readable run count) (PlanRead.Readable capability steps) j p) kind (k .counts)
+  by-readings (JournalRead.Readable run count) (PlanRead.Readable capability steps) ea eb k =
+      let answer = verdictBy (JournalRead.Readable run count) (PlanRead.Readable capability steps) j p in
+      kept-worded capability (stepsOf p) (recordsOf j) answer kind (k .counts)
 
   pub worded : Worded (verdictRule j p) kind
   unfolding verdictRule

@@ -1,6 +1,5 @@
--- The row of a run folder: its name, may it be resumed and at which step, the verdict's line, and plain words.
+-- The row of a run folder: its name, whether it may be resumed and at which step, the verdict's line, and plain words.
 use Prim.Native.Nat.{ℕ, _+_, _-_}
-use mathlib.Core.Path.{_≡_}
 use mathlib.Core.Bool.{cond}
 use mathlib.Core.List.{List, [], _∷_, _++_}
 use lib.Dec.{eqb}
@@ -24,7 +23,7 @@ cleaned (byte ∷ bytes) = clean byte ∷ cleaned bytes
 abbrev pub ended : List ℕ → ℕ → List ℕ
 ended text last = text ++ (last ∷ [])
 
--- the kind of the record before a place; before the first there is none
+-- the kind of the record before a place; 0 before the first record
 abbrev pub kindBefore : List ℕ → ℕ → ℕ
 kindBefore journal place = cond (eqb place 0) 0 (kindIn journal (place - 1))
 
@@ -58,9 +57,3 @@ fields name journal plan answer = ended (cleaned name) 9 ++ answerFields answer 
 
 unfoldable pub rowOf : List ℕ → List ℕ → List ℕ → List ℕ
 rowOf name journal plan = fields name journal plan (verdictRule journal plan)
-
--- a row with one field more: what stood before the place is kept, and the next field comes after it
-pub record Fielded (before : List ℕ) (at : ℕ) (text : List ℕ) (last : ℕ) (after : List ℕ) (next : ℕ) : Type 0 where
-  pub front : take next after ≡ take at before ++ ended text last
-  pub place : next ≡ at + length text + 1
-  pub same : length after ≡ length before

@@ -1,5 +1,5 @@
-// Prints a row for each run folder that it is given: the folder, may the run be resumed and at which step, the verdict's line,
-// and what to do or which line of the field engineer's checklist failed.
+// Prints a row for each run folder that it is given: the folder, whether the run may be resumed and at which step, the verdict's
+// line, and what to do or which line of the field engineer's checklist failed.
 //
 // Owns: what the arguments ask for. Must not own: the row. Reading and printing are tested; the row is proved.
 mod rows;
@@ -18,7 +18,7 @@ fn main() {
     }
 }
 
-// What the arguments ask for: the first that is no folder decides. No argument is no question.
+// What the arguments ask for: the first that is no folder decides. Without an argument nothing is asked.
 fn asked_by(count: usize) -> Asked {
     if count < 2 {
         return Asked::Unknown;
@@ -69,8 +69,8 @@ fn version() {
 
 // The row of each argument, up to the first that cannot be written.
 fn folders(count: usize) {
-    let mut journal = [0u8; 32770];
-    let mut plan = [0u8; 32770];
+    let mut journal = [0u8; file_bytes::ROOM];
+    let mut plan = [0u8; file_bytes::ROOM];
     let mut i = 1;
     while i < count {
         if !folder(i, &mut journal, &mut plan) {

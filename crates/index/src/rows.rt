@@ -8,7 +8,8 @@ ghost use Prim.Native.Nat.{_+_, _≤_};
 ghost use lib.ListN.{length, take};
 ghost use Rattle.io.specs.Counts.{Counts};
 ghost use Rattle.lines.specs.Words.{resumeOf, wordsOf};
-ghost use Rattle.index.specs.Row.{cleaned, kindBefore, endingKind, refusedKind, tellingKind, printed, answerFields, rowOf, Fielded};
+ghost use Rattle.index.specs.Row.{cleaned, kindBefore, endingKind, refusedKind, tellingKind, printed, answerFields, rowOf};
+ghost use Rattle.index.specs.Private.{Fielded};
 use endings::Ending;
 use histories::Answer;
 use lines::Line;
@@ -92,7 +93,7 @@ fn answer_fields(room: &mut [u8], at: usize, answer: Answer, kind: u8) -> usize
     words_field(room, third, answer, kind)
 }
 
-// The kind of the record before a place; before the first there is none.
+// The kind of the record before a place; 0 before the first record.
 fn kind_before(journal: &[u8], place: u64) -> u8
     ensures { λ r. ⌜ r ≡ kindBefore (now (journal .entry)) place ⌝ }
 {
@@ -137,14 +138,9 @@ fn telling_kind(journal: &[u8], plan: &[u8], answer: Answer) -> u8
             ending,
             stop,
             records,
-            calls,
+            ..
         } => ending_kind(journal, plan, ending, stop, records),
-        Answer::No {
-            number,
-            place,
-            divergence,
-            calls,
-        } => refused_kind(journal, number, place),
+        Answer::No { number, place, .. } => refused_kind(journal, number, place),
     }
 }
 

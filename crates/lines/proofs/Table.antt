@@ -13,7 +13,8 @@ use lib.ListN.{length, take, drop, getD, length-append, length-drop, drop-of-len
 use lib.Seq.{drop-cons, getD-drop, drop-drop, take-all}
 use Rattle.files.proofs.Checks.{both}
 use Rattle.lines.specs.Line.{decimal}
-use Rattle.lines.specs.Words.{Row, table, otherWords, ascii, isOf, wordsIn, shown, filled}
+use Rattle.lines.specs.Words.{Row, table, otherWords, isOf, wordsIn, shown, filled}
+use Rattle.endings.specs.Endings.{ascii}
 use Rattle.lines.specs.Rows.{coded, keyed, afterLine, ofLine, wordsAt}
 use Rattle.lines.proofs.Decimal.{twenty}
 
@@ -139,9 +140,12 @@ digits-tell number detail r hn hd = iff (told number detail r) (isOf number deta
   where
     there : told number detail r ≡ true → isOf number detail r ≡ true
     there h =
-        let p = both (ltb number 100 && ltb detail 10 && eqb (48 + r .number / 10) (48 + number / 10) && eqb (48 + r .number % 10) (48 + number % 10)) (eqb (48 + r .detail) (48 + detail)) h in
-        let q = both (ltb number 100 && ltb detail 10 && eqb (48 + r .number / 10) (48 + number / 10)) (eqb (48 + r .number % 10) (48 + number % 10)) (p .0) in
-        let s = both (ltb number 100 && ltb detail 10) (eqb (48 + r .number / 10) (48 + number / 10)) (q .0) in
+        let small = ltb number 100 && ltb detail 10 in
+        let same-tens = eqb (48 + r .number / 10) (48 + number / 10) in
+        let same-ones = eqb (48 + r .number % 10) (48 + number % 10) in
+        let p = both (small && same-tens && same-ones) (eqb (48 + r .detail) (48 + detail)) h in
+        let q = both (small && same-tens) same-ones (p .0) in
+        let s = both small same-tens (q .0) in
         let below = both (ltb number 100) (ltb detail 10) (s .0) in
         let tens = eqb-true (48 + r .number / 10) (48 + number / 10) (s .1) in
         let ones = eqb-true (48 + r .number % 10) (48 + number % 10) (q .1) in
@@ -166,7 +170,11 @@ keyed-row : (text : List ℕ) (at number detail : ℕ) (r : Row) (rows : List Ro
     keyed number detail text at ≡ isOf number detail r
 keyed-row text at number detail r rows e h =
     let p = parts-of r h in
-    rw (ap (λ (i : ℕ). getD text i 0) (add-zero at) ∙ byte-at text (coded (r ∷ rows)) at 0 e, byte-at text (coded (r ∷ rows)) at 1 e, byte-at text (coded (r ∷ rows)) at 3 e)
+    rw (
+      ap (λ (i : ℕ). getD text i 0) (add-zero at) ∙ byte-at text (coded (r ∷ rows)) at 0 e,
+      byte-at text (coded (r ∷ rows)) at 1 e,
+      byte-at text (coded (r ∷ rows)) at 3 e,
+    )
     (digits-tell number detail r (p .0) (p .1))
   where
     add-zero : (n : ℕ) → n ≡ n + 0

@@ -7,10 +7,10 @@ use lib.Dec.{ltb}
 use lib.ListN.{length, replicate, take}
 use Rattle.histories.specs.declared.Answer.{Answer}
 use Rattle.histories.specs.declared.Answer.the-variants as Answer
-use Rattle.endings.specs.Endings.{endingWord}
+use Rattle.endings.specs.Endings.{ascii, endingWord}
 use Rattle.lines.specs.declared.Line.{Line}
 
--- a number's digits, at most so many: before the last one those of a tenth of it, where that is not 0
+-- a number's digits, at most `most` of them: those of the number divided by ten, where that is not 0, then the last one
 abbrev pub digits : ℕ → ℕ → List ℕ
 digits zero n = []
 digits (suc most) n = cond (ltb n 10) [] (digits most (n / 10)) ++ ((48 + n % 10) ∷ [])
@@ -25,26 +25,18 @@ spaced [] = 10 ∷ []
 spaced (field ∷ []) = field ++ (10 ∷ [])
 spaced (field ∷ (next ∷ fields)) = field ++ (32 ∷ spaced (next ∷ fields))
 
--- "`ok`"
-abbrev pub okWord : List ℕ
-okWord = 111 ∷ 107 ∷ []
-
--- "`no`"
-abbrev pub noWord : List ℕ
-noWord = 110 ∷ 111 ∷ []
-
 -- "`ok`, ending, stop, records, calls; or `no`, number, place, divergence, calls"
 unfoldable pub lineOf : Answer → List ℕ
 lineOf (Answer.Ok ending stop records calls) =
-    spaced (okWord ∷ endingWord ending ∷ decimal stop ∷ decimal records ∷ decimal calls ∷ [])
+    spaced (ascii "ok" ∷ endingWord ending ∷ decimal stop ∷ decimal records ∷ decimal calls ∷ [])
 lineOf (Answer.No number place divergence calls) =
-    spaced (noWord ∷ decimal number ∷ decimal place ∷ decimal divergence ∷ decimal calls ∷ [])
+    spaced (ascii "no" ∷ decimal number ∷ decimal place ∷ decimal divergence ∷ decimal calls ∷ [])
 
 -- a line that holds these bytes: they come first, and zeros after them
 abbrev pub holding : List ℕ → Line
 holding bytes = record { bytes = bytes ++ replicate (128 - length bytes) 0; len = length bytes }
 
--- a line is this one: every byte is fixed. The other two parts follow; who lends the bytes finds them here.
+-- a line is this one: every byte is fixed. The other two parts follow from that; callers that read a line's bytes use them.
 pub record Holds (line : Line) (bytes : List ℕ) : Type 0 where
   pub whole : line ≡ holding bytes
   pub fits : line .len ≤ length (line .bytes)

@@ -1,10 +1,11 @@
--- How the table of words is kept in bytes, a row to a line, and searched.
+-- How the table of words is kept in bytes, a row to a line, and searched. Only private functions use this.
 use Prim.Native.Nat.{ℕ, _+_, _/_, _%_}
 use mathlib.Core.Bool.{Bool, cond, _&&_}
 use mathlib.Core.List.{List, [], _∷_, _++_}
 use lib.Dec.{eqb, ltb}
 use lib.ListN.{length, drop, getD}
-use Rattle.lines.specs.Words.{Row, ascii, otherWords}
+use Rattle.endings.specs.Endings.{ascii}
+use Rattle.lines.specs.Words.{Row, otherWords}
 
 -- two digits of the number, a space, one digit of the detail, a space, the words, a line feed
 abbrev pub coded : List Row → List ℕ
@@ -12,7 +13,7 @@ coded [] = []
 coded (r ∷ rows) =
     (48 + r .number / 10) ∷ (48 + r .number % 10) ∷ 32 ∷ (48 + r .detail) ∷ 32 ∷ (ascii (r .words) ++ (10 ∷ coded rows))
 
--- the line at a place bears this number and detail
+-- whether the line at a place has this number and detail
 abbrev pub keyed : ℕ → ℕ → List ℕ → ℕ → Bool
 keyed number detail text at =
     ltb number 100 && ltb detail 10 &&
@@ -30,6 +31,6 @@ abbrev pub ofLine : List ℕ → List ℕ
 ofLine [] = []
 ofLine (byte ∷ bytes) = cond (eqb byte 10) [] (byte ∷ ofLine bytes)
 
--- the words that begin at a place, those of no row at the end
+-- the words that begin at a place; at the end of the text, the words for no row
 abbrev pub wordsAt : List ℕ → ℕ → List ℕ
 wordsAt text at = cond (ltb at (length text)) (ofLine (drop at text)) (ascii otherWords)

@@ -1,23 +1,20 @@
 -- What an answer means in plain words: one table, with a row for each ending and each refusal that files can reach.
 use Prim.Native.Nat.{ℕ}
-use Prim.Native.Char.{code}
-use Prim.Native.String.{String, [] as «end», _∷_ as _then_}
-use mathlib.Core.Bool.{Bool, cond, _&&_, _||_}
+use Prim.Native.String.{String}
+use mathlib.Core.Bool.{Bool, cond, _&&_}
 use mathlib.Core.List.{List, [], _∷_, _++_}
 use lib.Dec.{eqb}
+use Rattle.records.specs.Records.{among}
+use Rattle.histories.specs.Histories.{openerKinds}
 use Rattle.histories.specs.declared.Answer.{Answer}
 use Rattle.histories.specs.declared.Answer.the-variants as Answer
 use Rattle.endings.specs.declared.Ending.{Ending}
 use Rattle.endings.specs.declared.Ending.the-variants as Ending
-use Rattle.endings.specs.Endings.{stillToRun}
+use Rattle.endings.specs.Endings.{ascii, stillToRun}
 use Rattle.lines.specs.Line.{decimal}
 
--- a text in bytes
-abbrev pub ascii : String → List ℕ
-ascii «end» = []
-ascii (c then text) = code c ∷ ascii text
-
--- a refusal's number (0 of an ending), the detail that tells apart those of one number, and the words; `#` stands for the step or the place
+-- a refusal's number (0 of an ending), the detail that tells apart those of one number, and the words; `#` stands for the step or the
+-- place
 pub record Row : Type 0 where
   pub number : ℕ
   pub detail : ℕ
@@ -97,7 +94,7 @@ endingDetail Ending.Finished kind = cond (eqb kind 8) 6 4
 -- is a marker
 abbrev pub detailOf : ℕ → ℕ → ℕ → ℕ → ℕ
 detailOf number place divergence kind =
-    cond (eqb number 24) (cond (eqb place 0) 0 (cond (eqb kind 2 || eqb kind 5) 2 1))
+    cond (eqb number 24) (cond (eqb place 0) 0 (cond (among openerKinds kind) 2 1))
     (cond (eqb number 31) (cond (eqb kind 9) 1 0) divergence)
 
 -- what to do at which step, or which line of the checklist failed and at which record
@@ -106,7 +103,7 @@ wordsOf (Answer.Ok ending stop records calls) kind = filled stop (ascii (wordsIn
 wordsOf (Answer.No number place divergence calls) kind =
     filled place (ascii (wordsIn table number (detailOf number place divergence kind)))
 
--- may the run be resumed, and at which step: where one is still to run
+-- whether the run may be resumed, and at which step: it may where a step is still to run
 unfoldable pub resumeOf : Answer → List ℕ
 resumeOf (Answer.Ok ending stop records calls) = filled stop (ascii (cond (stillToRun ending) "yes, step #" "no"))
 resumeOf (Answer.No number place divergence calls) = ascii "no"

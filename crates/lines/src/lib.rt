@@ -47,7 +47,7 @@ fn write(line: Line, text: &[u8]) -> Line
     next
 }
 
-// The digits of a number: those of its tenth, where it has one, and the last.
+// The digits of a number: those of the number divided by ten, where that is not 0, then the last one.
 pub(crate) fn number(line: Line, n: u64) -> Line
     requires { ⌜ line .len + length (decimal n) ≤ 128 ⌝ }
     ensures { λ r. ⌜ r ≡ written line (decimal n) ⌝ }

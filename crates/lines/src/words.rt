@@ -3,10 +3,10 @@ ghost use mathlib.Core.Path.{_≡_};
 ghost use mathlib.Core.Bool.{cond};
 ghost use Prim.Native.Nat.{_+_, _≤_, _<_};
 ghost use lib.ListN.{length, drop};
-ghost use Rattle.endings.specs.Endings.{stillToRun};
+ghost use Rattle.endings.specs.Endings.{ascii, stillToRun};
 ghost use Rattle.lines.specs.Line.{Holds};
 ghost use Rattle.lines.specs.Writing.{written};
-ghost use Rattle.lines.specs.Words.{table, wordsIn, ascii, filled, shown, endingDetail, detailOf, wordsOf, resumeOf};
+ghost use Rattle.lines.specs.Words.{table, wordsIn, filled, shown, endingDetail, detailOf, wordsOf, resumeOf};
 ghost use Rattle.lines.specs.Rows.{coded, afterLine, ofLine, keyed, wordsAt};
 use crate::Line;
 use endings::Ending;
@@ -28,7 +28,7 @@ fn next_line(text: &[u8], from: usize) -> usize
     at
 }
 
-// Does the line at this place bear this number and detail.
+// Whether the line at this place has this number and detail.
 fn is_of(text: &[u8], at: usize, number: u64, detail: u64) -> bool
     requires { ⌜ at + 4 ≤ length (now text) ⌝ }
     ensures { λ r. ⌜ r ≡ keyed number detail (now (text .entry)) at ⌝ }
@@ -176,7 +176,7 @@ fn detail_of(number: u64, place: u64, divergence: u64, kind: u8) -> u64
         if place == 0 {
             return 0;
         }
-        if (kind == 2) | (kind == 5) {
+        if (2 == kind) | (5 == kind) {
             return 2;
         }
         return 1;
@@ -207,7 +207,7 @@ pub fn words_of(answer: Answer, kind: u8) -> Line
     }
 }
 
-// May the run be resumed, and at which step.
+// Whether the run may be resumed, and at which step.
 pub fn resume_of(answer: Answer) -> Line
     ensures { λ r. ⌜ Holds r (resumeOf answer) ⌝ }
 {

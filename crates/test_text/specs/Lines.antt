@@ -71,7 +71,7 @@ abbrev pub itemsBytes : List (List ℕ) → List ℕ
 itemsBytes [] = []
 itemsBytes (item ∷ items) = itemBytes item ++ itemsBytes items
 
--- has each item bytes
+-- whether each item has bytes
 abbrev pub right : List (List ℕ) → Bool
 right [] = true
 right (item ∷ items) = leb 1 (length (itemBytes item)) && right items

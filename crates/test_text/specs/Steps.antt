@@ -1,4 +1,4 @@
--- What the private functions of `read_line` ask of one another. Nothing here need be believed.
+-- What private functions of this crate ask of one another: no part of what a reader must believe, only a step to the rule.
 use Prim.Native.Nat.{ℕ, _+_}
 use mathlib.Core.Bool.{cond, _&&_}
 use mathlib.Core.List.{List, [], _∷_, _++_}

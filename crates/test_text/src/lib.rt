@@ -72,7 +72,7 @@ fn first(s: &[u8]) -> u8
     s[0]
 }
 
-// Where such a byte stands next, or the end.
+// Where this byte stands next, or the end.
 fn find(s: &[u8], from: usize, b: u8) -> usize
     requires { ⌜ from ≤ length (now s) ⌝ }
     ensures { λ r. ⌜ r ≡ from + length (before b (drop from (now (s .entry)))) ⌝ }
@@ -129,7 +129,7 @@ fn item_len(item: &[u8], room: usize) -> usize
     times * size
 }
 
-// How often the bytes of an item stand there.
+// How often the bytes of an item are repeated.
 fn times_of(item: &[u8], star: usize) -> usize
     requires { ⌜ star ≡ length (digitsOf (now item)) ⌝ }
     ensures { λ r. ⌜ r ≡ timesOf (now (item .entry)) ⌝ }
@@ -161,7 +161,7 @@ fn decimal(s: &[u8]) -> usize
     value
 }
 
-// Are these pairs of hex digits.
+// Whether these are pairs of hex digits.
 fn paired(s: &[u8]) -> bool
     ensures { λ r. ⌜ r ≡ paired (now (s .entry)) ⌝ }
 {

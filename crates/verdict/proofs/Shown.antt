@@ -13,5 +13,6 @@ use Rattle.resume.specs.Verdict.{verdictRule}
 use Rattle.verdict.specs.Shown.{shownLines}
 
 pub shown-hold : map (λ (row : List ℕ × List ℕ). row .0) shownLines ≡ map (λ (row : List ℕ × List ℕ). row .1) shownLines
-unfolding Cursor.advanceRule machineAdvanceRule intentRule outcomeRule field headerNumber entriesRule readRule journalRule planRule turnRule walk procedure decimal lineOf verdictRule
+unfolding Cursor.advanceRule machineAdvanceRule intentRule outcomeRule field headerNumber entriesRule readRule journalRule planRule
+    turnRule walk procedure decimal lineOf verdictRule
 shown-hold = refl

@@ -4,7 +4,7 @@ use Prim.Native.String.{String}
 use mathlib.Core.List.{List, [], _∷_, _++_}
 use lib.ListN.{replicate}
 use Rattle.lines.specs.Line.{lineOf}
-use Rattle.lines.specs.Words.{ascii}
+use Rattle.endings.specs.Endings.{ascii}
 use Rattle.resume.specs.Verdict.{verdictRule}
 
 -- "`00*n` for n zero bytes"

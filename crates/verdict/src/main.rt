@@ -1,7 +1,7 @@
 // Prints the verdict on the files run.jnl and run.pln of a folder, as one line (01, "`verdict` reads"): of the folder that it is
 // given, or of the one that it is run in.
 //
-// Reading and printing are tested; no contract can speak of them. The line between them is proved.
+// No contract can say what is read and printed: that is tested. The line that is printed for what was read is proved.
 ghost use Rattle.io.specs.Counts.{Counts};
 ghost use Rattle.lines.specs.Line.{lineOf, Holds};
 ghost use Rattle.resume.specs.Verdict.{verdictRule};
@@ -46,8 +46,8 @@ fn usage(fd: i32) {
 
 // The verdict on a folder's files.
 fn judge(folder: &[u8]) {
-    let mut journal = [0u8; 32770];
-    let mut plan = [0u8; 32770];
+    let mut journal = [0u8; file_bytes::ROOM];
+    let mut plan = [0u8; file_bytes::ROOM];
     let n = file_bytes::contents(folder, b"run.jnl", &mut journal);
     let m = file_bytes::contents(folder, b"run.pln", &mut plan);
     print(verdict_line(&journal[..n], &plan[..m]));

@@ -12,5 +12,6 @@ returns c = (search needs, sym (length-take-le _ _ (search needs)))
 pub append-spec : {M : Type 1} → statement M
 append-spec =
     tie.close
-    (tie.spec (λ c. search needs) (λ c. search needs) (λ c. search needs) (λ c κs. search needs) (λ c. search needs)
-    (λ c. search needs) returns)
+    (tie.spec
+    (λ c. search needs) (λ c. search needs) (λ c. search needs) (λ c κs. search needs) (λ c. search needs) (λ c. search needs)
+    returns)

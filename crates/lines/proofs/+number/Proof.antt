@@ -51,7 +51,11 @@ add-push-2 t c = search needs
 push-requires-2 : (t : ℕ) → number-lts.Need-push-requires-2 (push-reads.Asked, push-reads.Learnt, number-below t, number.Post) (number-at t) number.Post
 push-requires-2 t c κs =
     let at = c .before .before in
-    omega (arith, ap (λ (l : Line). l .len) (c .number .ensures) ∙ written-len (at .args .line) (decimal (at .args .n / 10)), decimal-longer (at .args .n) (omega arith))
+    omega (
+      arith,
+      ap (λ (l : Line). l .len) (c .number .ensures) ∙ written-len (at .args .line) (decimal (at .args .n / 10)),
+      decimal-longer (at .args .n) (omega arith),
+    )
 
 returns-2 : (t : ℕ) → number-lts.Need-returns-2 (push-reads.Asked, push-reads.Learnt, number-below t, number.Post) (number-at t) number.Post
 returns-2 t c =

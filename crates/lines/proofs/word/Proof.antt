@@ -17,19 +17,34 @@ arm : (line : Line) {e e′ : Ending} {r : Line} → e ≡ e′ → r ≡ writte
 arm line p h l = (by-arm (λ (e : Ending). written line (endingWord e)) p h, l)
 
 returns : tie.Need-returns
-returns c = arm (c .before .before .before .before .args .line) (c .before .before .enum-told .given .1) (c .write .ensures .0) (omega arith)
+returns c =
+    let at-arm = c .before .before in
+    let args = at-arm .before .before .args in
+    arm (args .line) (at-arm .enum-told .given .1) (c .write .ensures .0) (omega arith)
 
 returns-2 : tie.Need-returns-2
-returns-2 c = arm (c .before .before .before .before .args .line) (c .before .before .enum-told2 .given .1) (c .write2 .ensures .0) (omega arith)
+returns-2 c =
+    let at-arm = c .before .before in
+    let args = at-arm .before .before .args in
+    arm (args .line) (at-arm .enum-told2 .given .1) (c .write2 .ensures .0) (omega arith)
 
 returns-3 : tie.Need-returns-3
-returns-3 c = arm (c .before .before .before .before .args .line) (c .before .before .enum-told3 .given .1) (c .write3 .ensures .0) (omega arith)
+returns-3 c =
+    let at-arm = c .before .before in
+    let args = at-arm .before .before .args in
+    arm (args .line) (at-arm .enum-told3 .given .1) (c .write3 .ensures .0) (omega arith)
 
 returns-4 : tie.Need-returns-4
-returns-4 c = arm (c .before .before .before .before .args .line) (c .before .before .enum-told4 .given .1) (c .write4 .ensures .0) (omega arith)
+returns-4 c =
+    let at-arm = c .before .before in
+    let args = at-arm .before .before .args in
+    arm (args .line) (at-arm .enum-told4 .given .1) (c .write4 .ensures .0) (omega arith)
 
 returns-5 : tie.Need-returns-5
-returns-5 c = arm (c .before .before .before .before .args .line) (c .before .before .enum-told5 .given .1) (c .write5 .ensures .0) (omega arith)
+returns-5 c =
+    let at-arm = c .before .before in
+    let args = at-arm .before .before .args in
+    arm (args .line) (at-arm .enum-told5 .given .1) (c .write5 .ensures .0) (omega arith)
 
 pub word-spec : {M : Type 1} → statement M
 word-spec =

@@ -43,7 +43,6 @@ returns c =
 
 pub write-spec : {M : Type 1} → statement M
 write-spec =
-    let shown = tie.spec
-    Inv-loop μ-loop loop-holds (λ c. search needs) push-requires (λ c. search needs) (λ c. search needs)
-    loop-again returns in
+    let shown = tie.spec Inv-loop μ-loop
+    loop-holds (λ c. search needs) push-requires (λ c. search needs) (λ c. search needs) loop-again returns in
     tie.close shown

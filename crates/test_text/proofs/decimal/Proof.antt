@@ -16,28 +16,38 @@ Inv-loop s at₀ value₀ at value = (decimalFrom value (drop at s) ≡ decimalF
 abbrev μ-loop : tie.MeasureT-loop
 μ-loop s at₀ value₀ at value = length s - at
 
+-- the places of the code, each from the next one back
+abbrev loop-of : tie.After-hex-digit Inv-loop μ-loop → tie.At-loop Inv-loop μ-loop
+loop-of c = c .before .before .before
+
+abbrev start-of : tie.At-loop Inv-loop μ-loop → tie.Start Inv-loop μ-loop
+start-of c = c .before .before
+
 returns : tie.Need-returns Inv-loop μ-loop
 returns c =
     let digit = c .before .hex-digit in
-    let loop = c .before .before .before .before .loop in
-    let args = c .before .before .before .before .before .before .args in
+    let at-loop = loop-of (c .before) in
+    let loop = at-loop .loop in
+    let args = start-of at-loop .args in
     sym (decimal-other (loop .value) (digit .result) (args .s .now) (loop .at) (omega arith) (digit .ensures .0) (omega arith)) ∙ loop .inv .0
 
 returns-2 : tie.Need-returns-2 Inv-loop μ-loop
 returns-2 c =
     let digit = c .before .before .hex-digit in
-    let loop = c .before .before .before .before .before .loop in
-    let args = c .before .before .before .before .before .before .before .args in
-    sym (decimal-over (loop .value) (digit .result) (args .s .now) (loop .at) (omega arith) (digit .ensures .0) (omega arith) (omega arith))
-    ∙ loop .inv .0
+    let at-loop = loop-of (c .before .before) in
+    let loop = at-loop .loop in
+    let args = start-of at-loop .args in
+    sym (decimal-over (loop .value) (digit .result) (args .s .now) (loop .at) (omega arith) (digit .ensures .0) (omega arith) (omega arith)) ∙
+    loop .inv .0
 
 loop-again : tie.Need-loop-again Inv-loop μ-loop
 loop-again c =
     let digit = c .before .before .hex-digit in
-    let loop = c .before .before .before .before .before .loop in
-    let args = c .before .before .before .before .before .before .before .args in (
-      sym (decimal-again (loop .value) (digit .result) (args .s .now) (loop .at) (omega arith) (digit .ensures .0) (omega arith) (omega arith))
-          ∙ loop .inv .0,
+    let at-loop = loop-of (c .before .before) in
+    let loop = at-loop .loop in
+    let args = start-of at-loop .args in (
+      sym (decimal-again (loop .value) (digit .result) (args .s .now) (loop .at) (omega arith) (digit .ensures .0) (omega arith) (omega arith)) ∙
+          loop .inv .0,
       omega arith,
       omega arith,
     )
@@ -50,6 +60,7 @@ returns-3 c =
 pub decimal-spec : {M : Type 1} → statement M
 decimal-spec =
     let shown =
-    tie.spec Inv-loop μ-loop (λ c. search needs) (λ c. search needs) (λ c κs. search needs) (λ c. search needs) returns
-    (λ c. search needs) (λ c. search needs) returns-2 (λ c. search needs) (λ c. search needs) loop-again returns-3 in
+    tie.spec Inv-loop μ-loop
+    (λ c. search needs) (λ c. search needs) (λ c κs. search needs) (λ c. search needs) returns (λ c. search needs)
+    (λ c. search needs) returns-2 (λ c. search needs) (λ c. search needs) loop-again returns-3 in
     tie.close shown

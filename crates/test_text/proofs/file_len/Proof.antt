@@ -20,6 +20,16 @@ Inv-loop line room at₀ len₀ at len =
 abbrev μ-loop : tie.MeasureT-loop
 μ-loop line room at₀ len₀ at len = length line - at
 
+-- the places of the code, each from the next one back
+abbrev find2-of : tie.After-item-len Inv-loop μ-loop → tie.After-find2 Inv-loop μ-loop
+find2-of c = c .before .before
+
+abbrev loop-of : tie.After-find2 Inv-loop μ-loop → tie.At-loop Inv-loop μ-loop
+loop-of c = c .before .before
+
+abbrev start-of : tie.At-loop Inv-loop μ-loop → tie.Start Inv-loop μ-loop
+start-of c = c .before .before .before .before
+
 returns : tie.Need-returns Inv-loop μ-loop
 returns c =
     let args = c .before .before .before .args in
@@ -40,18 +50,22 @@ loop-holds c =
 returns-2 : tie.Need-returns-2 Inv-loop μ-loop
 returns-2 c =
     let size = c .before .item-len in
-    let end = c .before .before .before .find2 in
-    let loop = c .before .before .before .before .before .loop in
-    let args = c .before .before .before .before .before .before .before .before .before .args in
+    let at-find2 = find2-of (c .before) in
+    let end = at-find2 .find2 in
+    let at-loop = loop-of at-find2 in
+    let loop = at-loop .loop in
+    let args = start-of at-loop .args in
     sym (turn-stops (args .line .now) (loop .at) (end .result) (omega arith) (loop .inv .1) (end .ensures .0) (args .room) (loop .len)
     (omega arith) (sym (size .ensures) ∙ c .if2 .taken)) ∙ loop .inv .0
 
 add-len : tie.Need-add-len Inv-loop μ-loop
 add-len c =
     let size = c .before .item-len in
-    let end = c .before .before .before .find2 in
-    let loop = c .before .before .before .before .before .loop in
-    let args = c .before .before .before .before .before .before .before .before .before .args in
+    let at-find2 = find2-of (c .before) in
+    let end = at-find2 .find2 in
+    let at-loop = loop-of at-find2 in
+    let loop = at-loop .loop in
+    let args = start-of at-loop .args in
     omega (
       arith,
       turn-goes-on (args .line .now) (loop .at) (end .result) (omega arith) (loop .inv .1) (end .ensures .0) (args .room) (loop .len)
@@ -61,9 +75,11 @@ add-len c =
 loop-again : tie.Need-loop-again Inv-loop μ-loop
 loop-again c =
     let size = c .before .item-len in
-    let end = c .before .before .before .find2 in
-    let loop = c .before .before .before .before .before .loop in
-    let args = c .before .before .before .before .before .before .before .before .before .args in
+    let at-find2 = find2-of (c .before) in
+    let end = at-find2 .find2 in
+    let at-loop = loop-of at-find2 in
+    let loop = at-loop .loop in
+    let args = start-of at-loop .args in
     let line = args .line .now in
     let turn =
     turn-goes-on line (loop .at) (end .result) (omega arith) (loop .inv .1) (end .ensures .0) (args .room) (loop .len) (size .result)
@@ -77,14 +93,14 @@ loop-again c =
 returns-3 : tie.Need-returns-3 Inv-loop μ-loop
 returns-3 c =
     let loop = c .before .loop in
-    let args = c .before .before .before .before .before .args in
-    ap (λ (left : List _). sized (args .room) (loop .len) (items left)) (sym (drop-of-length-le (args .line .now) {i = loop .at} (omega arith)))
-    ∙ loop .inv .0
+    let args = start-of (c .before) .args in
+    ap (λ (left : List _). sized (args .room) (loop .len) (items left)) (sym (drop-of-length-le (args .line .now) {i = loop .at} (omega arith))) ∙
+    loop .inv .0
 
 pub file-len-spec : {M : Type 1} → statement M
 file-len-spec =
     let shown =
-    tie.spec Inv-loop μ-loop (λ c κs. search needs) returns loop-holds (λ c. search needs) (λ c κs. search needs)
-    (λ c. search needs) (λ c. search needs) (λ c. search needs) (λ c. search needs) (λ c κs. search needs) returns-2 add-len
-    (λ c. search needs) loop-again returns-3 in
+    tie.spec Inv-loop μ-loop
+    (λ c κs. search needs) returns loop-holds (λ c. search needs) (λ c κs. search needs) (λ c. search needs) (λ c. search needs)
+    (λ c. search needs) (λ c. search needs) (λ c κs. search needs) returns-2 add-len (λ c. search needs) loop-again returns-3 in
     tie.close shown

@@ -36,6 +36,6 @@ returns-2 c =
 pub find-spec : {M : Type 1} → statement M
 find-spec =
     let shown =
-    tie.spec Inv-loop μ-loop (λ c. search needs) (λ c. search needs) returns (λ c. search needs) (λ c. search needs)
-    loop-again returns-2 in
+    tie.spec Inv-loop μ-loop
+    (λ c. search needs) (λ c. search needs) returns (λ c. search needs) (λ c. search needs) loop-again returns-2 in
     tie.close shown

@@ -11,7 +11,9 @@ returns : tie.Need-returns
 returns c = let args = c .before .before .before .args in sym (byte-high (args .high) (args .low) (omega arith))
 
 returns-2 : tie.Need-returns-2
-returns-2 c = let args = c .before .before .before .before .args in sym (byte-low (args .high) (args .low) (omega arith) (omega arith))
+returns-2 c =
+    let args = c .before .before .before .before .args in
+    sym (byte-low (args .high) (args .low) (omega arith) (omega arith))
 
 returns-3 : tie.Need-returns-3
 returns-3 c =
@@ -21,6 +23,7 @@ returns-3 c =
 pub hex-byte-spec : {M : Type 1} → statement M
 hex-byte-spec =
     let shown =
-    tie.spec (λ c κs. search needs) (λ c. search needs) (λ c κs. search needs) (λ c. search needs) returns returns-2
-    (λ c. search needs) (λ c. search needs) returns-3 in
+    tie.spec
+    (λ c κs. search needs) (λ c. search needs) (λ c κs. search needs) (λ c. search needs) returns returns-2 (λ c. search needs)
+    (λ c. search needs) returns-3 in
     tie.close shown

@@ -17,10 +17,14 @@ returns-3 : tie.Need-returns-3
 returns-3 c = (sym (digit-between (c .before .before .before .args .b) (omega arith) (omega arith)), omega arith)
 
 returns-4 : tie.Need-returns-4
-returns-4 c = (sym (digit-letter (c .before .before .before .before .args .b) (omega arith) (omega arith)), omega arith)
+returns-4 c =
+    let args = c .before .before .before .before .args in
+    (sym (digit-letter (args .b) (omega arith) (omega arith)), omega arith)
 
 returns-5 : tie.Need-returns-5
-returns-5 c = (sym (digit-above (c .before .before .before .before .args .b) (omega arith)), omega arith)
+returns-5 c =
+    let args = c .before .before .before .before .args in
+    (sym (digit-above (args .b) (omega arith)), omega arith)
 
 pub hex-digit-spec : {M : Type 1} → statement M
 hex-digit-spec = let shown = tie.spec returns returns-2 returns-3 (λ c. search needs) returns-4 returns-5 in tie.close shown

@@ -16,16 +16,20 @@ Inv-loop s at₀ at = (paired (drop at s) ≡ paired s) × (at ≤ length s)
 abbrev μ-loop : tie.MeasureT-loop
 μ-loop s at₀ at = length s - at
 
+-- the places of the code, each from the next one back
+abbrev start-of : tie.At-loop Inv-loop μ-loop → tie.Start Inv-loop μ-loop
+start-of c = c .before .before
+
 returns : tie.Need-returns Inv-loop μ-loop
 returns c =
     let loop = c .before .before .before .before .before .loop in
-    let args = c .before .before .before .before .before .before .before .args in
+    let args = start-of (c .before .before .before .before .before) .args in
     sym (paired-never (args .s .now) (loop .at) (omega arith) (omega arith)) ∙ loop .inv .0
 
 loop-again : tie.Need-loop-again Inv-loop μ-loop
 loop-again c =
     let loop = c .before .before .before .before .before .loop in
-    let args = c .before .before .before .before .before .before .before .args in
+    let args = start-of (c .before .before .before .before .before) .args in
     (sym (paired-again (args .s .now) (loop .at) (omega arith) (omega arith)) ∙ loop .inv .0, omega arith)
 
 returns-2 : tie.Need-returns-2 Inv-loop μ-loop
@@ -36,6 +40,7 @@ returns-2 c =
 pub paired-spec : {M : Type 1} → statement M
 paired-spec =
     let shown =
-    tie.spec Inv-loop μ-loop (λ c. search needs) (λ c. search needs) (λ c. search needs) (λ c. search needs) (λ c. search needs)
-    (λ c κs. search needs) returns (λ c. search needs) (λ c. search needs) loop-again returns-2 in
+    tie.spec Inv-loop μ-loop
+    (λ c. search needs) (λ c. search needs) (λ c. search needs) (λ c. search needs) (λ c. search needs) (λ c κs. search needs)
+    returns (λ c. search needs) (λ c. search needs) loop-again returns-2 in
     tie.close shown

@@ -10,6 +10,16 @@ use Rattle.test_text.proofs.Read.{line-past, none-past, line-here, line
 use Rattle.test_text.proofs.read_line.Statement.{statement}
 use Rattle.test_text.proofs.read_line.Tie as tie
 
+-- the places of the code, each from the next one back
+abbrev first-of : tie.After-read-file → tie.After-first
+first-of c = c .before .before
+
+abbrev find-of : tie.After-first → tie.After-find
+find-of c = c .before .before
+
+abbrev start-of : tie.After-find → tie.Start
+start-of c = c .before .before .before .before
+
 returns : tie.Need-returns
 returns c =
     let args = c .before .before .before .args in
@@ -21,9 +31,11 @@ returns c =
 returns-2 : tie.Need-returns-2
 returns-2 c =
     let file = c .before .before .before .read-file in
-    let first = c .before .before .before .before .before .first in
-    let end = c .before .before .before .before .before .before .before .find in
-    let args = c .before .before .before .before .before .before .before .before .before .before .before .args in
+    let at-first = first-of (c .before .before .before) in
+    let first = at-first .first in
+    let at-find = find-of at-first in
+    let end = at-find .find in
+    let args = start-of at-find .args in
     let text = args .text .now in
     let room = args .room .now in
     let here = line-here text (args .at) (length room) (first .result) (end .result) (file .result) (end .ensures .0) in (
@@ -38,9 +50,11 @@ returns-2 c =
 returns-3 : tie.Need-returns-3
 returns-3 c =
     let file = c .before .before .before .read-file in
-    let first = c .before .before .before .before .before .first in
-    let end = c .before .before .before .before .before .before .before .find in
-    let args = c .before .before .before .before .before .before .before .before .before .before .before .args in
+    let at-first = first-of (c .before .before .before) in
+    let first = at-first .first in
+    let at-find = find-of at-first in
+    let end = at-find .find in
+    let args = start-of at-find .args in
     let text = args .text .now in
     let room = args .room .now in
     let here = line-here text (args .at) (length room) (first .result) (end .result) (file .result) (end .ensures .0) in (
@@ -55,6 +69,7 @@ returns-3 c =
 pub read-line-spec : {M : Type 1} → statement M
 read-line-spec =
     let shown =
-    tie.spec returns (λ c κs. search needs) (λ c. search needs) (λ c. search needs) (λ c. search needs) (λ c κs. search needs)
+    tie.spec
+    returns (λ c κs. search needs) (λ c. search needs) (λ c. search needs) (λ c. search needs) (λ c κs. search needs)
     (λ c κs. search needs) (λ c. search needs) (λ c. search needs) returns-2 (λ c. search needs) returns-3 in
     tie.close shown

@@ -22,6 +22,6 @@ returns-2 c =
 pub times-of-spec : {M : Type 1} → statement M
 times-of-spec =
     let shown =
-    tie.spec (λ c. search needs) (λ c. search needs) (λ c. search needs) (λ c. search needs) (λ c κs. search needs) returns
-    returns-2 in
+    tie.spec
+    (λ c. search needs) (λ c. search needs) (λ c. search needs) (λ c. search needs) (λ c κs. search needs) returns returns-2 in
     tie.close shown

@@ -19,6 +19,10 @@ Inv-loop digits room₀ from at₀ len₀ room at len =
 abbrev μ-loop : tie.MeasureT-loop
 μ-loop digits room₀ from at₀ len₀ room at len = length digits - at
 
+-- the places of the code, each from the next one back
+abbrev start-of : tie.At-loop Inv-loop μ-loop → tie.Start Inv-loop μ-loop
+start-of c = c .before .before .before
+
 loop-holds : tie.Need-loop-holds Inv-loop μ-loop
 loop-holds c =
     let start = c .before .before in
@@ -28,20 +32,20 @@ loop-holds c =
 cast-room : tie.Need-cast-room Inv-loop μ-loop
 cast-room c =
     let loop = c .before .before .before .before .loop in
-    let args = c .before .before .before .before .before .before .before .args in
+    let args = start-of (c .before .before .before .before) .args in
     omega (arith, paired-byte (args .digits .now) (loop .at) (omega arith) (loop .inv .1))
 
 slice-write-room : tie.Need-slice-write-room Inv-loop μ-loop
 slice-write-room c =
     let loop = c .before .before .before .before .loop in
-    let args = c .before .before .before .before .before .before .before .args in
+    let args = start-of (c .before .before .before .before) .args in
     omega (arith, ap length (bytes-again (args .digits .now) (loop .at) (omega arith)))
 
 loop-again : tie.Need-loop-again Inv-loop μ-loop
 loop-again c =
     let byte = c .hex-byte in
     let loop = c .before .before .before .before .loop in
-    let args = c .before .before .before .before .before .before .before .args in
+    let args = start-of (c .before .before .before .before) .args in
     let digits = args .digits .now in
     let more = bytes-again digits (loop .at) (omega arith) in (
       left-byte (args .room .now) (args .from) (hexBytes digits) (loop .room) (loop .len) (hexBytes (drop (loop .at) digits)) (loop .inv .0)
@@ -53,7 +57,7 @@ loop-again c =
 returns : tie.Need-returns Inv-loop μ-loop
 returns c =
     let loop = c .before .loop in
-    let args = c .before .before .before .before .args in
+    let args = start-of (c .before) .args in
     let digits = args .digits .now in
     left-none (args .room .now) (args .from) (hexBytes digits) (loop .room) (loop .len) (hexBytes (drop (loop .at) digits)) (loop .inv .0)
     (bytes-last digits (loop .at) (omega arith) (omega arith))
@@ -61,7 +65,7 @@ returns c =
 pub write-digits-spec : {M : Type 1} → statement M
 write-digits-spec =
     let shown =
-    tie.spec Inv-loop μ-loop loop-holds (λ c. search needs) (λ c. search needs) (λ c. search needs) (λ c. search needs)
-    (λ c κs. search needs) cast-room slice-write-room (λ c. search needs) (λ c. search needs) (λ c. search needs) loop-again
-    (λ c. search needs) returns in
+    tie.spec Inv-loop μ-loop
+    loop-holds (λ c. search needs) (λ c. search needs) (λ c. search needs) (λ c. search needs) (λ c κs. search needs) cast-room
+    slice-write-room (λ c. search needs) (λ c. search needs) (λ c. search needs) loop-again (λ c. search needs) returns in
     tie.close shown

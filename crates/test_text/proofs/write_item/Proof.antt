@@ -20,11 +20,18 @@ Inv-loop item room₀ from star left₀ at₀ room left at = Left room₀ from (
 abbrev μ-loop : tie.MeasureT-loop
 μ-loop item room₀ from star left₀ at₀ room left at = left
 
+-- the places of the code, each from the next one back
+abbrev find-of : tie.At-loop Inv-loop μ-loop → tie.After-find Inv-loop μ-loop
+find-of c = c .before .before
+
+abbrev start-of : tie.After-find Inv-loop μ-loop → tie.Start Inv-loop μ-loop
+start-of c = c .before .before .before
+
 loop-holds : tie.Need-loop-holds Inv-loop μ-loop
 loop-holds c =
     let times = c .times-of in
     let star = c .before .find in
-    let start = c .before .before .before .before in
+    let start = start-of (c .before) in
     let args = start .args in
     let item = args .item .now in
     rw (item-copies item (star .result) (times .result) (omega arith) (times .ensures) (start .pre .0))
@@ -32,15 +39,17 @@ loop-holds c =
 
 slice-aggregate-write-digits : tie.Need-slice-aggregate-write-digits Inv-loop μ-loop
 slice-aggregate-write-digits c =
-    let star = c .before .before .before .before .find in
-    let args = c .before .before .before .before .before .before .before .args in
+    let at-find = find-of (c .before .before) in
+    let star = at-find .find in
+    let args = start-of at-find .args in
     sym (length-take-le (star .result) (args .item .now) (omega arith))
 
 write-digits-requires : tie.Need-write-digits-requires Inv-loop μ-loop
 write-digits-requires c κs =
     let loop = c .before .before .before .loop in
-    let star = c .before .before .before .before .before .find in
-    let start = c .before .before .before .before .before .before .before .before in
+    let at-find = find-of (c .before .before .before) in
+    let star = at-find .find in
+    let start = start-of at-find in
     let item = start .args .item .now in
     let bytes = hexBytes (take (star .result) item) in (
       ap paired (digits-first item (star .result) (omega arith)) ∙ start .pre .0,
@@ -51,8 +60,9 @@ loop-again : tie.Need-loop-again Inv-loop μ-loop
 loop-again c =
     let written = c .before .before .write-digits in
     let loop = c .before .before .before .before .before .before .loop in
-    let star = c .before .before .before .before .before .before .before .before .find in
-    let start = c .before .before .before .before .before .before .before .before .before .before .before in
+    let at-find = find-of (c .before .before .before .before .before .before) in
+    let star = at-find .find in
+    let start = start-of at-find in
     let args = start .args in
     let bytes = hexBytes (take (star .result) (args .item .now)) in
     let more = copies-again (loop .left) bytes (omega arith) in
@@ -63,8 +73,9 @@ loop-again c =
 returns : tie.Need-returns Inv-loop μ-loop
 returns c =
     let loop = c .before .loop in
-    let star = c .before .before .before .find in
-    let args = c .before .before .before .before .before .before .args in
+    let at-find = find-of (c .before) in
+    let star = at-find .find in
+    let args = start-of at-find .args in
     let bytes = hexBytes (take (star .result) (args .item .now)) in
     let none : loop .left ≡ 0 = omega arith in
     left-none (args .room .now) (args .from) (itemBytes (args .item .now)) (loop .room) (loop .at) (copies (loop .left) bytes) (loop .inv)
@@ -73,6 +84,7 @@ returns c =
 pub write-item-spec : {M : Type 1} → statement M
 write-item-spec =
     let shown =
-    tie.spec Inv-loop μ-loop (λ c κs. search needs) (λ c κs. search needs) loop-holds slice-aggregate-write-digits
-    write-digits-requires (λ c. search needs) (λ c. search needs) loop-again (λ c. search needs) returns in
+    tie.spec Inv-loop μ-loop
+    (λ c κs. search needs) (λ c κs. search needs) loop-holds slice-aggregate-write-digits write-digits-requires
+    (λ c. search needs) (λ c. search needs) loop-again (λ c. search needs) returns in
     tie.close shown

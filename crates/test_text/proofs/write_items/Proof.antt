@@ -22,6 +22,13 @@ Inv-loop line room₀ at₀ len₀ room at len =
 abbrev μ-loop : tie.MeasureT-loop
 μ-loop line room₀ at₀ len₀ room at len = length line - at
 
+-- the places of the code, each from the next one back
+abbrev loop-of : tie.After-find Inv-loop μ-loop → tie.At-loop Inv-loop μ-loop
+loop-of c = c .before .before
+
+abbrev start-of : tie.At-loop Inv-loop μ-loop → tie.Start Inv-loop μ-loop
+start-of c = c .before .before .before
+
 loop-holds : tie.Need-loop-holds Inv-loop μ-loop
 loop-holds c =
     let start = c .before .before in
@@ -37,8 +44,9 @@ loop-holds c =
 write-item-requires : tie.Need-write-item-requires Inv-loop μ-loop
 write-item-requires c κs =
     let end = c .before .before .find in
-    let loop = c .before .before .before .before .loop in
-    let line = c .before .before .before .before .before .before .before .args .line .now in
+    let at-loop = loop-of (c .before .before) in
+    let loop = at-loop .loop in
+    let line = start-of at-loop .args .line .now in
     let start = loop .at + 1 in
     let item = take (end .result - start) (drop start line) in (
       turn-right line (loop .at) (end .result) (omega arith) (loop .inv .1) (end .ensures .0) (loop .inv .2) .0,
@@ -53,8 +61,9 @@ loop-again : tie.Need-loop-again Inv-loop μ-loop
 loop-again c =
     let written = c .before .before .write-item in
     let end = c .before .before .before .before .before .find in
-    let loop = c .before .before .before .before .before .before .before .loop in
-    let args = c .before .before .before .before .before .before .before .before .before .before .args in
+    let at-loop = loop-of (c .before .before .before .before .before) in
+    let loop = at-loop .loop in
+    let args = start-of at-loop .args in
     let line = args .line .now in
     let start = loop .at + 1 in
     let item = take (end .result - start) (drop start line) in
@@ -71,7 +80,7 @@ loop-again c =
 returns : tie.Need-returns Inv-loop μ-loop
 returns c =
     let loop = c .before .loop in
-    let args = c .before .before .before .before .args in
+    let args = start-of (c .before) .args in
     let line = args .line .now in
     left-none (args .room .now) 0 (itemsBytes (items line)) (loop .room) (loop .len) (itemsBytes (items (drop (loop .at) line))) (loop .inv .0)
     (ap (λ (left : List _). itemsBytes (items left)) (drop-of-length-le line {i = loop .at} (omega arith))) .1
@@ -79,6 +88,7 @@ returns c =
 pub write-items-spec : {M : Type 1} → statement M
 write-items-spec =
     let shown =
-    tie.spec Inv-loop μ-loop loop-holds (λ c. search needs) (λ c κs. search needs) (λ c. search needs) (λ c. search needs)
-    (λ c. search needs) write-item-requires (λ c. search needs) loop-again (λ c. search needs) returns in
+    tie.spec Inv-loop μ-loop
+    loop-holds (λ c. search needs) (λ c κs. search needs) (λ c. search needs) (λ c. search needs) (λ c. search needs)
+    write-item-requires (λ c. search needs) loop-again (λ c. search needs) returns in
     tie.close shown

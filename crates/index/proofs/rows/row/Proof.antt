@@ -17,13 +17,13 @@ returns c =
     let answer = at-name .before .before .before .verdict in
     let args = at-name .before .before .before .before .before .before .before .before .args in (
       row-of (args .name .now) (args .journal .now) (args .plan .now) (args .room .now) (name .last .0) (rest .last .0) (name .result)
-          (rest .result) (kind .result) (answer .result) (name .ensures .0) (rest .ensures .0) (kind .ensures)
-          ∙ ap (fields (args .name .now) (args .journal .now) (args .plan .now)) (answer .ensures .0),
+          (rest .result) (kind .result) (answer .result) (name .ensures .0) (rest .ensures .0) (kind .ensures) ∙
+          ap (fields (args .name .now) (args .journal .now) (args .plan .now)) (answer .ensures .0),
       rest .ensures .1,
     )
 
 pub row-spec : {M : Type 1} → statement M
 row-spec =
     tie.close
-    (tie.spec (λ c κs. search needs) (λ c κs. search needs) (λ c κs. search needs) (λ c κs. search needs) (λ c. search needs)
-    returns)
+    (tie.spec
+    (λ c κs. search needs) (λ c κs. search needs) (λ c κs. search needs) (λ c κs. search needs) (λ c. search needs) returns)

@@ -12,6 +12,5 @@ returns-2 c = rw (c .before .before .answer2 .given .1) (c .refused-kind .ensure
 
 pub telling-kind-spec : {M : Type 1} → statement M
 telling-kind-spec =
-    let shown = tie.spec
-    (λ c. search needs) (λ c κs. search needs) (λ c. search needs) (λ c κs. search needs) returns returns-2 in
+    let shown = tie.spec (λ c. search needs) (λ c κs. search needs) (λ c. search needs) (λ c κs. search needs) returns returns-2 in
     tie.close shown

@@ -10,9 +10,13 @@ use Rattle.index.proofs.Fields.{held-part}
 use Rattle.index.proofs.rows.verdict_field.Statement.{statement}
 use Rattle.index.proofs.rows.verdict_field.Tie as tie
 
+-- the places of the code, each from the next one back
+abbrev start-of : tie.After-line-of → tie.Start
+start-of c = c .before .before
+
 sub-line-field : tie.Need-sub-line-field
 sub-line-field c =
-    let answer = c .before .before .before .before .args .answer in
+    let answer = start-of (c .before .before) .args .answer in
     let line = c .before .before .line-of in
     omega (arith, held-len (line .result) (lineOf answer) (line .ensures), line-some answer)
 
@@ -21,7 +25,7 @@ line-field-requires c κs = let h = c .before .before .line-of .ensures in (omeg
 
 returns : tie.Need-returns
 returns c =
-    let args = c .before .before .before .before .before .before .before .args in
+    let args = start-of (c .before .before .before .before .before) .args in
     let line = c .before .before .before .before .before .line-of in
     let said = c .before .before .line-field in
     let text = lineOf (args .answer) in

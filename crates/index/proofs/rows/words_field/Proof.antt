@@ -11,7 +11,8 @@ returns c =
     let args = c .before .before .before .before .before .before .args in
     let line = c .before .before .before .before .words-of in
     let said = c .before .before .line-field in (
-      held-field (line .result) (wordsOf (args .answer) (args .kind)) (args .room .now) (args .at) 10 (said .last .0) (said .result) (line .ensures) (said .ensures .0),
+      held-field (line .result) (wordsOf (args .answer) (args .kind)) (args .room .now) (args .at) 10 (said .last .0) (said .result)
+          (line .ensures) (said .ensures .0),
       said .ensures .1,
     )
 

@@ -1,7 +1,8 @@
 -- `lines::words::detail_of` meets its contract: a test for each case.
 -- Assumes nothing.
-use mathlib.Core.Path.{_≡_}
+use mathlib.Core.Path.{sym, _∙_}
 use borrow.Author.Tests.{eq-eqb, ne-eqb}
+use Rattle.histories.proofs.Laws.{opener}
 use Rattle.lines.proofs.words.detail_of.Statement.{statement}
 use Rattle.lines.proofs.words.detail_of.Tie as tie
 
@@ -13,12 +14,12 @@ returns c =
 returns-2 : tie.Need-returns-2
 returns-2 c =
     let args = c .before .before .before .args in
-    rw (eq-eqb (args .number) 24 (c .before .before .if1 .taken), ne-eqb (args .place) 0 (c .before .if2 .left), c .if3 .taken)
+    rw (eq-eqb (args .number) 24 (c .before .before .if1 .taken), ne-eqb (args .place) 0 (c .before .if2 .left), sym (opener (args .kind)) ∙ c .if3 .taken)
 
 returns-3 : tie.Need-returns-3
 returns-3 c =
     let args = c .before .before .before .args in
-    rw (eq-eqb (args .number) 24 (c .before .before .if1 .taken), ne-eqb (args .place) 0 (c .before .if2 .left), c .if3 .left)
+    rw (eq-eqb (args .number) 24 (c .before .before .if1 .taken), ne-eqb (args .place) 0 (c .before .if2 .left), sym (opener (args .kind)) ∙ c .if3 .left)
 
 returns-4 : tie.Need-returns-4
 returns-4 c =

@@ -21,5 +21,6 @@ returns-7 c = rw (c .before .enum-told5 .given .1, ne-eqb (c .before .before .be
 pub ending-detail-spec : {M : Type 1} → statement M
 ending-detail-spec =
     tie.close
-    (tie.spec (λ c. search needs) (λ c. search needs) (λ c. search needs) (λ c. search needs) (λ c. search needs) (λ c. search needs)
+    (tie.spec
+    (λ c. search needs) (λ c. search needs) (λ c. search needs) (λ c. search needs) (λ c. search needs) (λ c. search needs)
     (λ c. search needs) (λ c. search needs) returns-4 returns-5 returns-6 returns-7)

@@ -19,4 +19,5 @@ returns-2 c = rw (c .before .before .before .answer2 .given .1) (c .fill .ensure
 pub resume-of-spec : {M : Type 1} → statement M
 resume-of-spec =
     tie.close
-    (tie.spec (λ c. search needs) (λ c κs. search needs) (λ c. search needs) (λ c. search needs) (λ c κs. omega arith) returns returns-2)
+    (tie.spec
+    (λ c. search needs) (λ c κs. search needs) (λ c. search needs) (λ c. search needs) (λ c κs. omega arith) returns returns-2)

@@ -5,7 +5,8 @@ use mathlib.Core.Path.{_∙_, refl, sym}
 use Prim.Native.Nat.{ℕ, _<_, _≤_}
 use native.Mathlib.Omega.{arith}
 use lib.ListN.{length}
-use Rattle.lines.specs.Words.{ascii, filled}
+use Rattle.lines.specs.Words.{filled}
+use Rattle.endings.specs.Endings.{ascii}
 use Rattle.lines.proofs.Table.{fits}
 use Rattle.lines.proofs.words.resumed.Statement.{statement}
 use Rattle.lines.proofs.words.resumed.Tie as tie
@@ -22,5 +23,6 @@ returns-2 c = rw (sym (c .before .before .before .still-to-run .ensures) ∙ c .
 pub resumed-spec : {M : Type 1} → statement M
 resumed-spec =
     tie.close
-    (tie.spec (λ c κs. search needs) (λ c. search needs) (λ c κs. yes-fit (c .before .before .before .args .stop) (omega arith)) (λ c. search needs)
-    (λ c κs. omega arith) returns returns-2)
+    (tie.spec
+    (λ c κs. search needs) (λ c. search needs) (λ c κs. yes-fit (c .before .before .before .args .stop) (omega arith))
+    (λ c. search needs) (λ c κs. omega arith) returns returns-2)
