@@ -9,9 +9,10 @@ use lib.Seq.{paste, paste-zero, paste-suc, take-paste, take-length, take-suc-set
 use Rattle.histories.specs.declared.Answer.{Answer}
 use Rattle.lines.specs.declared.Line.{Line}
 use Rattle.lines.specs.Line.{Holds}
+use Rattle.lines.specs.Telling.{tellingKind}
 use Rattle.lines.proofs.Laws.{held-len, held-front}
 use Rattle.file_bytes.specs.Names.{clean}
-use Rattle.index.specs.Row.{cleaned, ended, tellingKind, answerFields, fields}
+use Rattle.index.specs.Row.{cleaned, ended, answerFields, fields}
 use Rattle.index.specs.Private.{Fielded}
 
 -- the first n bytes of a text stand at a place, and all else is as it was

@@ -8,9 +8,8 @@ ghost use Prim.Native.Nat.{_+_, _≤_};
 ghost use lib.ListN.{length, take};
 ghost use Rattle.io.specs.Counts.{Counts};
 ghost use Rattle.lines.specs.Words.{resumeOf, wordsOf};
-ghost use Rattle.index.specs.Row.{cleaned, kindBefore, endingKind, refusedKind, tellingKind, printed, answerFields, rowOf};
+ghost use Rattle.index.specs.Row.{cleaned, printed, answerFields, rowOf};
 ghost use Rattle.index.specs.Private.{Fielded};
-use endings::Ending;
 use histories::Answer;
 use lines::Line;
 
@@ -93,57 +92,6 @@ fn answer_fields(room: &mut [u8], at: usize, answer: Answer, kind: u8) -> usize
     words_field(room, third, answer, kind)
 }
 
-// The kind of the record before a place; 0 before the first record.
-fn kind_before(journal: &[u8], place: u64) -> u8
-    ensures { λ r. ⌜ r ≡ kindBefore (now (journal .entry)) place ⌝ }
-{
-    if place == 0 {
-        return 0;
-    }
-    files::kinds::kind_of(journal, place - 1)
-}
-
-// The kind of the open step, or of the record that ended the run.
-fn ending_kind(journal: &[u8], plan: &[u8], ending: Ending, stop: u64, records: u64) -> u8
-    ensures { λ r. ⌜ r ≡ endingKind (now (journal .entry)) (now (plan .entry)) ending stop records ⌝ }
-{
-    match ending {
-        Ending::Unstarted => 0,
-        Ending::Due => 0,
-        Ending::Done => 0,
-        Ending::Open => files::kinds::kind_of(plan, stop),
-        Ending::Finished => kind_before(journal, records),
-    }
-}
-
-// The kind of the record before one that cannot follow it, or of one beyond the plan.
-fn refused_kind(journal: &[u8], number: u64, place: u64) -> u8
-    ensures { λ r. ⌜ r ≡ refusedKind (now (journal .entry)) number place ⌝ }
-{
-    if number == 24 {
-        return kind_before(journal, place);
-    }
-    if number == 31 {
-        return files::kinds::kind_of(journal, place);
-    }
-    0
-}
-
-// The kind of the entry that tells apart the words of one answer.
-fn telling_kind(journal: &[u8], plan: &[u8], answer: Answer) -> u8
-    ensures { λ r. ⌜ r ≡ tellingKind (now (journal .entry)) (now (plan .entry)) answer ⌝ }
-{
-    match answer {
-        Answer::Ok {
-            ending,
-            stop,
-            records,
-            ..
-        } => ending_kind(journal, plan, ending, stop, records),
-        Answer::No { number, place, .. } => refused_kind(journal, number, place),
-    }
-}
-
 // The row of a folder with these two files, at the start of room.
 pub(crate) fn row(name: &[u8], journal: &[u8], plan: &[u8], room: &mut [u8]) -> usize
     requires { ⌜ length (now name) ≤ 4096 ⌝ }
@@ -152,7 +100,7 @@ pub(crate) fn row(name: &[u8], journal: &[u8], plan: &[u8], room: &mut [u8]) -> 
     ensures { λ r. ⌜ Counts r (now (room .exit)) ⌝ }
 {
     let answer = resume::verdict(journal, plan);
-    let kind = telling_kind(journal, plan, answer);
+    let kind = lines::telling::telling_kind(journal, plan, answer);
     let at = name_field(room, name);
     answer_fields(room, at, answer, kind)
 }

@@ -81,7 +81,7 @@ abbrev pub filled : ℕ → List ℕ → List ℕ
 filled n [] = []
 filled n (byte ∷ bytes) = shown n byte ++ filled n bytes
 
--- What tells apart the words of one answer is the kind of one entry (which one, index/Row says): 2 an effect's opener, 5 a timer's,
+-- What tells apart the words of one answer is the kind of one entry (which one, Telling says): 2 an effect's opener, 5 a timer's,
 -- 8 a failed run, 9 a marker. At *open* it is the step's, at *finished* the last record's.
 abbrev pub endingDetail : Ending → ℕ → ℕ
 endingDetail Ending.Unstarted kind = 0
