@@ -6,7 +6,7 @@ use mathlib.Core.List.{List, [], _∷_}
 use lib.Dec.{T, eqb}
 use Rattle.clocks.specs.declared.ClockCapability.{ClockCapability}
 use Rattle.records.specs.declared.RecordRef.{RecordRef}
-use Rattle.records.specs.Records.{among}
+use Rattle.records.specs.Records.{among, openerKinds}
 use Rattle.files.specs.declared.Format.the-variants as Format
 use Rattle.files.specs.declared.JournalRead.{JournalRead}
 use Rattle.files.specs.declared.JournalRead.the-variants as JournalRead
@@ -20,7 +20,6 @@ use Rattle.histories.specs.declared.Answer.{Answer}
 use Rattle.histories.specs.declared.Answer.the-variants as Answer
 use Rattle.endings.specs.declared.Ending.{Ending}
 use Rattle.endings.specs.declared.Ending.the-variants as Ending
-use Rattle.histories.specs.Histories.{openerKinds}
 use Rattle.histories.specs.Checklist.{refusalNumbers, refusalDivergences, divergencesOf}
 use Rattle.histories.specs.Promise.{Promise, RefusedCount, Counted}
 use Rattle.histories.proofs.Numbers.{Each, each}

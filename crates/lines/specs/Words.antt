@@ -4,8 +4,7 @@ use Prim.Native.String.{String}
 use mathlib.Core.Bool.{Bool, cond, _&&_}
 use mathlib.Core.List.{List, [], _∷_, _++_}
 use lib.Dec.{eqb}
-use Rattle.records.specs.Records.{among}
-use Rattle.histories.specs.Histories.{openerKinds}
+use Rattle.records.specs.Records.{among, openerKinds}
 use Rattle.histories.specs.declared.Answer.{Answer}
 use Rattle.histories.specs.declared.Answer.the-variants as Answer
 use Rattle.endings.specs.declared.Ending.{Ending}
