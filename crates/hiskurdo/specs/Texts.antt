@@ -6,7 +6,8 @@ use lib.Dec.{leb}
 use lib.ListN.{length, drop}
 use Rattle.histories.specs.declared.Answer.{Answer}
 use Rattle.lines.specs.Line.{decimal}
-use Rattle.lines.specs.Words.{ascii, wordsOf}
+use Rattle.endings.specs.Endings.{ascii}
+use Rattle.lines.specs.Words.{wordsOf}
 use Rattle.lines.specs.Telling.{tellingKind}
 use Rattle.resume.specs.Verdict.{verdictRule}
 

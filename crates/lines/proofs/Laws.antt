@@ -13,7 +13,8 @@ use Rattle.histories.specs.declared.Answer.{Answer}
 use Rattle.histories.specs.declared.Answer.the-variants as Answer
 use Rattle.lines.specs.declared.Line.{Line}
 use Rattle.lines.specs.Line.{lineOf, holding, Holds}
-use Rattle.lines.specs.Words.{Row, table, otherWords, ascii, isOf, wordsIn, filled, endingDetail, detailOf, wordsOf}
+use Rattle.endings.specs.Endings.{ascii}
+use Rattle.lines.specs.Words.{Row, table, otherWords, isOf, wordsIn, filled, endingDetail, detailOf, wordsOf}
 
 pub held-len : (line : Line) (text : List ℕ) → Holds line text → line .len ≡ length text
 held-len line text h = ap (λ (l : Line). l .len) (h .whole)
