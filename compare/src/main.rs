@@ -19,6 +19,7 @@ mod numbering;
 mod numbering_lines;
 mod proved_side;
 mod random;
+mod rearming;
 mod records;
 mod refused;
 mod rust_machine;

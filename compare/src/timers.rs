@@ -5,6 +5,7 @@ use crate::both::Both;
 use crate::calls::Call;
 use crate::ffi::SpecNumbers;
 use crate::random::Random;
+use crate::rearming;
 use crate::values;
 
 const CLOCKS: [u8; 2] = [1, 2];
@@ -16,6 +17,7 @@ pub fn run(settings: &Settings, both: &mut Both) {
         for deadline in values::U64 {
             of_spec(both, SpecNumbers { deadline, clock });
         }
+        rearming::of_spec(both, SpecNumbers { deadline: 5, clock });
     }
     at_random(both, settings);
 }

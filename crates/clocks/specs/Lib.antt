@@ -1,3 +1,4 @@
 pub mod Specs
+pub mod Rearming
 pub mod Timers
 pub mod Told

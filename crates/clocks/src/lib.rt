@@ -6,6 +6,7 @@
 // Why two specs: a boot clock returns to 0 after a reset and cannot say how long the power was off; a persistent clock can. So after
 // a reset a boot timer counts from the smaller reading, and a persistent one from the reading that was recorded.
 ghost use mathlib.Core.Path.{_≡_};
+ghost use Rattle.clocks.specs.Rearming.{Rearmed};
 ghost use Rattle.clocks.specs.Specs.{specClock, specDeadline, rearmedAt, recordedSpec, capabilityOf};
 ghost use Rattle.clocks.specs.Timers.{admission, armed, lackingOf, evaluation};
 ghost use Rattle.clocks.specs.Told.{timerSpecOptionTold, admitsResultTold, timerResultTold, deadlineResultTold};
@@ -48,9 +49,11 @@ impl TimerSpec {
         }
     }
 
-    // The reading at which a recorded deadline is armed again, given what its clock says now.
+    // The reading at which a recorded deadline is armed again, given what its clock says now. After several reboots the order of
+    // the readings does not matter, nor how often one of them is taken: only the smallest counts.
     pub fn rearmed_at(self, recorded: u64, now: u64) -> u64
         ensures { λ r. ⌜ r ≡ rearmedAt self recorded now ⌝ }
+        ensures law { λ r. ⌜ Rearmed self recorded now r ⌝ }
     {
         match self {
             TimerSpec::AfterBoot { ticks: _ } => { if now < recorded { now } else { recorded } }

@@ -11,7 +11,7 @@ returns : tie.Need-returns
 returns c =
     let named = c .before .before .before .before .before .spec-of in
     let it = c .before .before .before .s in
-    by-arm (ofSpec _) (sym (named .ensures) ∙ it .given .1) (rw (c .value .ensures, c .before .rearmed-at .ensures))
+    by-arm (ofSpec _) (sym (named .ensures) ∙ it .given .1) (rw (c .value .ensures, c .before .rearmed-at .ensures .0))
 
 returns-2 : tie.Need-returns-2
 returns-2 c =
