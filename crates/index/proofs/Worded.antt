@@ -8,20 +8,19 @@ use Rattle.clocks.specs.declared.ClockCapability.{ClockCapability}
 use Rattle.records.specs.declared.RecordRef.{RecordRef}
 use Rattle.records.specs.Records.{among, openerKinds}
 use Rattle.files.specs.declared.Format.the-variants as Format
-use Rattle.files.specs.declared.JournalRead.{JournalRead}
-use Rattle.files.specs.declared.JournalRead.the-variants as JournalRead
-use Rattle.files.specs.declared.PlanRead.{PlanRead}
-use Rattle.files.specs.declared.PlanRead.the-variants as PlanRead
+use Rattle.files.specs.declared.FileRead.{FileRead}
+use Rattle.files.specs.declared.FileRead.the-variants as FileRead
 use Rattle.files.specs.declared.PlanStep.{PlanStep}
-use Rattle.files.specs.Reading.{checkNumbers, journalRule, planRule}
+use Rattle.files.specs.Reading.{checkNumbers, readRule, asJournal, asPlan, journalRule, planRule}
 use Rattle.files.specs.Contents.{recordsOf, stepsOf}
-use Rattle.files.proofs.Laws.{journal-number, plan-number}
+use Rattle.files.proofs.Laws.{refused-number}
 use Rattle.histories.specs.declared.Answer.{Answer}
 use Rattle.histories.specs.declared.Answer.the-variants as Answer
 use Rattle.endings.specs.declared.Ending.{Ending}
 use Rattle.endings.specs.declared.Ending.the-variants as Ending
 use Rattle.histories.specs.Checklist.{refusalNumbers, refusalDivergences, divergencesOf}
-use Rattle.histories.specs.Promise.{Promise, RefusedCount, Counted}
+use Rattle.histories.specs.Promise.{Promise}
+use Rattle.histories.proofs.Whole.{promise-listed}
 use Rattle.histories.proofs.Numbers.{Each, each}
 use Rattle.lines.specs.Words.{Row, table, isOf, endingDetail, detailOf}
 use Rattle.resume.specs.EndResult.{KeptBy, Kept}
@@ -89,21 +88,23 @@ replayed kind place = (
   ),
 )
 
-kept-worded : (capability : ClockCapability) (plan : List PlanStep) (records : List RecordRef) (answer : Answer) (kind : ℕ) →
-    Counted capability plan records answer → Worded answer kind
-kept-worded capability plan list (Answer.Ok ending stop records calls) kind c = ending-worded ending kind
-kept-worded capability plan list (Answer.No number place divergence calls) kind c =
-    each (Replayed kind place) refusalNumbers (replayed kind place) number (c .listed) divergence (c .divergences)
+kept-worded : {capability : ClockCapability} {plan : List PlanStep} {records : List RecordRef} (answer : Answer) (kind : ℕ) →
+    Promise capability plan records answer → Worded answer kind
+kept-worded (Answer.Ok ending stop records calls) kind kept = ending-worded ending kind
+kept-worded (Answer.No number place divergence calls) kind kept =
+    let listed = promise-listed kept in
+    each (Replayed kind place) refusalNumbers (replayed kind place) number (listed .0) divergence (listed .1)
 
 module _ (j p : List ℕ) (kind : ℕ) where
-  by-readings : (a : JournalRead) (b : PlanRead) → journalRule j ≡ a → planRule p ≡ b → KeptBy a b j p (verdictBy a b j p) → Worded (verdictBy a b j p) kind
-  by-readings (JournalRead.Refused n place) b ea eb k = each (Read kind place) (checkNumbers Format.Journal) (journal-worded kind place) n (journal-number j ea)
-  by-readings (JournalRead.Readable run count) (PlanRead.Refused n place) ea eb k =
-      each (Read kind place) (checkNumbers Format.Plan) (plan-worded kind place) n (plan-number p eb)
-  by-readings (JournalRead.Readable run count) (PlanRead.Readable capability steps) ea eb k =
-      let answer = verdictBy (JournalRead.Readable run count) (PlanRead.Readable capability steps) j p in
-      kept-worded capability (stepsOf p) (recordsOf j) answer kind (k .counts)
+  by-readings : (a b : FileRead) → readRule Format.Journal j ≡ a → readRule Format.Plan p ≡ b →
+      KeptBy a b j p (verdictBy (asJournal a) (asPlan b) j p) → Worded (verdictBy (asJournal a) (asPlan b) j p) kind
+  by-readings (FileRead.Refused n place) b ea eb k =
+      each (Read kind place) (checkNumbers Format.Journal) (journal-worded kind place) n (refused-number Format.Journal j ea)
+  by-readings (FileRead.Readable run count) (FileRead.Refused n place) ea eb k =
+      each (Read kind place) (checkNumbers Format.Plan) (plan-worded kind place) n (refused-number Format.Plan p eb)
+  by-readings (FileRead.Readable run count) (FileRead.Readable board steps) ea eb k =
+      kept-worded (verdictBy (asJournal (FileRead.Readable run count)) (asPlan (FileRead.Readable board steps)) j p) kind (k .1 .1)
 
   pub worded : Worded (verdictRule j p) kind
-  unfolding verdictRule
-  worded = by-readings (journalRule j) (planRule p) refl refl (keeps j p (verdictRule j p) refl .promise)
+  unfolding verdictRule journalRule planRule
+  worded = by-readings (readRule Format.Journal j) (readRule Format.Plan p) refl refl (keeps j p (verdictRule j p) refl .promise)
