@@ -1,6 +1,6 @@
 pub mod Bytes
 pub mod Checks
-pub mod Limits
+pub mod Bounds
 pub mod Said
 pub mod Header
 pub mod Steps
@@ -8,3 +8,4 @@ pub mod Passing
 pub mod Laws
 pub mod Bodies
 pub mod Canonical
+pub mod ByTable
