@@ -4,6 +4,7 @@ use crate::Settings;
 use crate::compared_files::Compared;
 use crate::damaged_files;
 use crate::damaged_list;
+use crate::edges;
 use crate::made_files;
 
 pub fn run(settings: &Settings) -> String {
@@ -12,6 +13,7 @@ pub fn run(settings: &Settings) -> String {
         compared.file(format, &file);
     }
     made_files::run(&mut compared);
+    edges::run(&mut compared);
     damaged_files::run(settings, &mut compared);
     compared.told()
 }

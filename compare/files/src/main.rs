@@ -5,6 +5,7 @@ mod bench;
 mod compared_files;
 mod damaged_files;
 mod damaged_list;
+mod edges;
 mod files;
 mod histories;
 mod judge;

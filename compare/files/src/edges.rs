@@ -1,0 +1,164 @@
+//! The edges of the fields' bounds, each with the number that it owes written out. The table of the
+//! plain reader has no part in these numbers.
+
+use crate::compared_files::Compared;
+use crate::made_files::set_field;
+use crate::numbers;
+use crate::reader::{Entry, FORMATS, Format, GREATEST};
+use crate::report::differ_on_file;
+use crate::samples::empty_entry;
+use crate::writing::File;
+
+pub fn run(compared: &mut Compared) {
+    timers(compared);
+    bodies(compared);
+    unknown_kinds(compared);
+    one_bit_more(compared);
+    together(compared);
+}
+
+/// A file of this one entry, without a body, has this number on both sides.
+fn owed(compared: &mut Compared, format: Format, entry: Entry, number: u64) {
+    let mut file = File::new(format, 0);
+    file.push(entry, None);
+    let file = file.bytes();
+    let said = numbers::read(format, &file).number;
+    if said != number {
+        differ_on_file(format, &file, "an edge", &number, &said);
+    }
+    compared.file(format, &file);
+}
+
+/// "clock 255 of a timer, S 2^32 - 1, D and M 2^64 - 1 of a timer are read".
+fn timers(compared: &mut Compared) {
+    let timer = Entry {
+        kind: 5,
+        ..Entry::default()
+    };
+    let full = Entry {
+        clock: 255,
+        s: u32::MAX,
+        d: u64::MAX,
+        m: u64::MAX,
+        ..timer
+    };
+    for entry in [timer, full] {
+        owed(compared, Format::Journal, entry, 0);
+        owed(compared, Format::Journal, Entry { a: 1, ..entry }, 8);
+    }
+    let step = Entry {
+        clock: 2,
+        d: u64::MAX,
+        ..timer
+    };
+    owed(compared, Format::Plan, step, 0);
+    owed(compared, Format::Plan, Entry { m: 1, ..step }, 18);
+}
+
+/// M 65,535 is the length of a body, which this file does not have; 65,536 is none.
+fn bodies(compared: &mut Compared) {
+    for kind in [1, 3, 4, 7, 8] {
+        for (m, number) in [
+            (0, 0),
+            (65_535, 9),
+            (65_536, 8),
+            (1 << 32, 8),
+            (u64::MAX, 8),
+        ] {
+            let entry = Entry {
+                kind,
+                m,
+                ..Entry::default()
+            };
+            owed(compared, Format::Journal, entry, number);
+        }
+    }
+}
+
+/// "kinds 0 and 10 to 255 are 7 whatever their fields".
+fn unknown_kinds(compared: &mut Compared) {
+    for kind in [0].into_iter().chain(10..=u8::MAX) {
+        let full = Entry {
+            kind,
+            clock: u8::MAX,
+            a: u16::MAX,
+            s: u32::MAX,
+            d: u64::MAX,
+            m: u64::MAX,
+        };
+        for (format, number) in [(Format::Journal, 7), (Format::Plan, 17)] {
+            owed(compared, format, empty_entry(format, kind), number);
+            owed(compared, format, full, number);
+        }
+    }
+}
+
+/// The fields that are narrower than their place: at their greatest value, and one bit wider.
+fn one_bit_more(compared: &mut Compared) {
+    let schedule = Entry {
+        kind: 2,
+        clock: 0,
+        a: u16::MAX,
+        s: u32::MAX,
+        d: 65_535,
+        m: u64::from(u32::MAX),
+    };
+    let start = Entry {
+        kind: 1,
+        s: 0,
+        m: 0,
+        ..schedule
+    };
+    let marker = Entry {
+        kind: 9,
+        m: 0,
+        ..schedule
+    };
+    let fired = Entry {
+        kind: 6,
+        s: u32::MAX,
+        ..Entry::default()
+    };
+    for entry in [schedule, start, marker, fired] {
+        owed(compared, Format::Journal, entry, 0);
+        for field in [0, 3, 4] {
+            let mut wider = entry;
+            let value = [
+                u64::from(entry.clock),
+                entry.a.into(),
+                entry.s.into(),
+                entry.d,
+                entry.m,
+            ][field];
+            // a body of no length is within its bound
+            if (entry.kind, field) != (1, 4) {
+                set_field(&mut wider, field, value + 1);
+                owed(compared, Format::Journal, wider, 8);
+            }
+        }
+    }
+}
+
+/// Each field at 0, at its greatest value and above it, all at once, in each kind and beside it.
+fn together(compared: &mut Compared) {
+    for format in FORMATS {
+        for kind in 0..=10 {
+            for choice in 0..243_u32 {
+                let mut entry = empty_entry(format, kind);
+                for field in 0..5 {
+                    let row = GREATEST.get(usize::from(kind).wrapping_sub(1));
+                    let greatest = row.map_or(u64::MAX, |row| row[field]);
+                    let value = match choice / 3_u32.pow(field as u32) % 3 {
+                        0 => continue,
+                        1 => greatest,
+                        _ => greatest.wrapping_add(1),
+                    };
+                    set_field(&mut entry, field, value);
+                }
+                let mut file = File::new(format, 0);
+                file.push(entry, None);
+                compared.file(format, &file.bytes());
+            }
+        }
+    }
+}
