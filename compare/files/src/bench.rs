@@ -133,6 +133,8 @@ struct AllFiles {
     full: Files,
     /// 1,024 records, all timers.
     timers: Files,
+    /// A journal of 1,024 version markers: of a kind that the proved code has no test for.
+    markers: Vec<u8>,
     small: Files,
     large: Files,
 }
@@ -148,10 +150,27 @@ impl AllFiles {
         AllFiles {
             full,
             timers: Files::new(1_024, timer, 0),
+            markers: markers(1_024),
             small: Files::new(128, |number| effect(number, 0), 0),
             large: Files::new(1_024, |number| effect(number, 0), 0),
         }
     }
+}
+
+/// A journal of so many version markers.
+fn markers(count: u32) -> Vec<u8> {
+    let mut file = writing::File::new(Format::Journal, 1);
+    for s in 0..count {
+        let marker = Entry {
+            kind: 9,
+            a: 7,
+            s,
+            d: 3,
+            ..Entry::default()
+        };
+        file.push(marker, None);
+    }
+    file.bytes()
 }
 
 /// A journal of so many records whose last step is open, and its plan, which has as many
@@ -251,10 +270,12 @@ fn cases(all: &AllFiles) -> Vec<Case<'_>> {
     for boundary in [0, full.stop - 1, full.stop, full.stop + 1] {
         cases.push(handover_case(full, boundary));
     }
-    cases.push(Case {
-        owed: false,
-        ..iterating_case(full)
-    });
+    for case in [iterating_case(full), markers_case(&all.markers)] {
+        cases.push(Case {
+            owed: false,
+            ..case
+        });
+    }
     cases
 }
 
@@ -264,6 +285,14 @@ fn reading_case(format: Format, files: &Files) -> Case<'_> {
         format!("read a {name}, 1,024 entries, {}", files.what),
         move || Some(numbers::read(format, black_box(file))),
         move || proved::read(format, black_box(file)),
+    )
+}
+
+fn markers_case(journal: &[u8]) -> Case<'_> {
+    Case::new(
+        "read a journal, 1,024 entries, markers".to_string(),
+        move || Some(numbers::read(Format::Journal, black_box(journal))),
+        move || proved::read(Format::Journal, black_box(journal)),
     )
 }
 

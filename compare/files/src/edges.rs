@@ -1,11 +1,10 @@
-//! The edges of the fields' bounds, each with the number that it owes written out. The table of the
-//! plain reader has no part in these numbers.
+//! The edges of the fields' bounds. All parts but the last (`together`) have the number that is owed
+//! written out: the table of the plain reader has no part in those.
 
 use crate::compared_files::Compared;
 use crate::made_files::set_field;
 use crate::numbers;
 use crate::reader::{Entry, FORMATS, Format, GREATEST};
-use crate::report::differ_on_file;
 use crate::samples::empty_entry;
 use crate::writing::File;
 
@@ -23,13 +22,14 @@ fn owed(compared: &mut Compared, format: Format, entry: Entry, number: u64) {
     file.push(entry, None);
     let file = file.bytes();
     let said = numbers::read(format, &file).number;
-    if said != number {
-        differ_on_file(format, &file, "an edge", &number, &said);
-    }
+    assert_eq!(
+        said, number,
+        "an edge, the plain reader beside what is owed: {format:?} {entry:?}"
+    );
     compared.file(format, &file);
 }
 
-/// "clock 255 of a timer, S 2^32 - 1, D and M 2^64 - 1 of a timer are read".
+/// A timer's clock 255, its S 2^32 - 1, its D and M 2^64 - 1 are read.
 fn timers(compared: &mut Compared) {
     let timer = Entry {
         kind: 5,
@@ -55,7 +55,7 @@ fn timers(compared: &mut Compared) {
     owed(compared, Format::Plan, Entry { m: 1, ..step }, 18);
 }
 
-/// M 65,535 is the length of a body, which this file does not have; 65,536 is none.
+/// M 65,535 is the length of a body, which this file does not have; 65,536 is no body's length.
 fn bodies(compared: &mut Compared) {
     for kind in [1, 3, 4, 7, 8] {
         for (m, number) in [
@@ -75,7 +75,7 @@ fn bodies(compared: &mut Compared) {
     }
 }
 
-/// "kinds 0 and 10 to 255 are 7 whatever their fields".
+/// Kind 0 and kinds 10 to 255 are 7 whatever their fields.
 fn unknown_kinds(compared: &mut Compared) {
     for kind in [0].into_iter().chain(10..=u8::MAX) {
         let full = Entry {
@@ -93,7 +93,7 @@ fn unknown_kinds(compared: &mut Compared) {
     }
 }
 
-/// The fields that are narrower than their place: at their greatest value, and one bit wider.
+/// Every field at its greatest value, and the fields that are narrower than their place one bit wider.
 fn one_bit_more(compared: &mut Compared) {
     let schedule = Entry {
         kind: 2,
@@ -119,19 +119,24 @@ fn one_bit_more(compared: &mut Compared) {
         s: u32::MAX,
         ..Entry::default()
     };
-    for entry in [schedule, start, marker, fired] {
+    let ended = Entry {
+        kind: 7,
+        ..Entry::default()
+    };
+    for entry in [schedule, start, marker, fired, ended] {
         owed(compared, Format::Journal, entry, 0);
-        for field in [0, 3, 4] {
-            let mut wider = entry;
-            let value = [
-                u64::from(entry.clock),
-                entry.a.into(),
-                entry.s.into(),
-                entry.d,
-                entry.m,
-            ][field];
-            // a body of no length is within its bound
-            if (entry.kind, field) != (1, 4) {
+        let values = [
+            entry.clock.into(),
+            entry.a.into(),
+            entry.s.into(),
+            entry.d,
+            entry.m,
+        ];
+        for (field, value) in values.into_iter().enumerate() {
+            let full = (field == 1 && entry.a == u16::MAX) || (field == 2 && entry.s == u32::MAX);
+            let body = field == 4 && matches!(entry.kind, 1 | 7);
+            if !full && !body {
+                let mut wider = entry;
                 set_field(&mut wider, field, value + 1);
                 owed(compared, Format::Journal, wider, 8);
             }
@@ -139,7 +144,8 @@ fn one_bit_more(compared: &mut Compared) {
     }
 }
 
-/// Each field at 0, at its greatest value and above it, all at once, in each kind and beside it.
+/// In kinds 0 to 10 all fields at once, each at 0, at its greatest value and one above, which is 0
+/// again where the field is no wider.
 fn together(compared: &mut Compared) {
     for format in FORMATS {
         for kind in 0..=10 {
