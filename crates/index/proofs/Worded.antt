@@ -1,9 +1,10 @@
 -- Every answer that the verdict gives has a row of its own in the table of words: no file leads to the words of no row.
 use Prim.Native.Nat.{ℕ}
-use mathlib.Core.Path.{_≡_, refl}
+use mathlib.Core.Path.{_≡_, refl, sym, subst}
 use mathlib.Core.Bool.{Bool, true, false, cond, _||_}
 use mathlib.Core.List.{List, [], _∷_}
 use lib.Dec.{T, eqb}
+use borrow.Author.Tests.{eqb-true}
 use Rattle.clocks.specs.declared.ClockCapability.{ClockCapability}
 use Rattle.records.specs.declared.RecordRef.{RecordRef}
 use Rattle.records.specs.Records.{among, openerKinds}
@@ -11,19 +12,18 @@ use Rattle.files.specs.declared.Format.the-variants as Format
 use Rattle.files.specs.declared.FileRead.{FileRead}
 use Rattle.files.specs.declared.FileRead.the-variants as FileRead
 use Rattle.files.specs.declared.PlanStep.{PlanStep}
-use Rattle.files.specs.Reading.{checkNumbers, readRule, asJournal, asPlan, journalRule, planRule}
-use Rattle.files.specs.Contents.{recordsOf, stepsOf}
-use Rattle.files.proofs.Laws.{refused-number}
+use Rattle.files.specs.Reading.{readingNumbers, readRule, asJournal, asPlan, journalRule, planRule}
+use Rattle.files.proofs.Laws.{refused-reading}
 use Rattle.histories.specs.declared.Answer.{Answer}
 use Rattle.histories.specs.declared.Answer.the-variants as Answer
 use Rattle.endings.specs.declared.Ending.{Ending}
 use Rattle.endings.specs.declared.Ending.the-variants as Ending
-use Rattle.histories.specs.Checklist.{refusalNumbers, refusalDivergences, divergencesOf}
+use Rattle.histories.specs.Checklist.{refusalNumbers, divergencesOf}
 use Rattle.histories.specs.Promise.{Promise}
 use Rattle.histories.proofs.Whole.{promise-listed}
-use Rattle.histories.proofs.Numbers.{Each, each}
+use Rattle.histories.proofs.Numbers.{all, one-of}
 use Rattle.lines.specs.Words.{Row, table, isOf, endingDetail, detailOf}
-use Rattle.resume.specs.EndResult.{KeptBy, Kept}
+use Rattle.resume.specs.EndResult.{KeptBy}
 use Rattle.resume.specs.Verdict.{verdictBy, verdictRule}
 use Rattle.resume.proofs.Keeps.{keeps}
 
@@ -50,15 +50,9 @@ ending-worded Ending.Finished kind = either (eqb kind 8)
     either true = tt
     either false = tt
 
--- a refusal of reading, which has no divergence
-abbrev Read : ℕ → ℕ → ℕ → Type 0
-Read kind place n = T (hasRow table n (detailOf n place 0 kind))
-
-journal-worded : (kind place : ℕ) → Each (Read kind place) (checkNumbers Format.Journal)
-journal-worded kind place = (tt, (tt, (tt, (tt, (tt, (tt, (tt, (tt, tt))))))))
-
-plan-worded : (kind place : ℕ) → Each (Read kind place) (checkNumbers Format.Plan)
-plan-worded kind place = (tt, (tt, (tt, (tt, (tt, (tt, (tt, (tt, (tt, tt)))))))))
+-- each number of reading, which has no divergence
+read-worded : (kind place : ℕ) → T (all (λ (n : ℕ). hasRow table n (detailOf n place 0 kind)) readingNumbers)
+read-worded kind place = tt
 
 -- 24: the first record, one after an opener, any other
 malformed : (first opened : Bool) → T (hasRow table 24 (cond first 0 (cond opened 2 1)))
@@ -71,37 +65,41 @@ beyond : (marker : Bool) → T (hasRow table 31 (cond marker 1 0))
 beyond true = tt
 beyond false = tt
 
--- a refusal of the procedure, by its number and divergence
-abbrev Replayed : ℕ → ℕ → ℕ → Type 0
-Replayed kind place n =
-    (d : ℕ) → T (among (divergencesOf n) d) → T (hasRow table n (detailOf n place d kind))
+-- whether a number of the procedure has a row for each of its divergences; 24 and 31 are asked apart, by place and kind
+abbrev hasRows : ℕ → Bool
+hasRows n = eqb n 24 || (eqb n 31 || all (hasRow table n) (divergencesOf n))
 
-replayed : (kind place : ℕ) → Each (Replayed kind place) refusalNumbers
-replayed kind place = (
-  each (λ (d : ℕ). T (hasRow table 22 d)) refusalDivergences (tt, (tt, (tt, (tt, (tt, tt))))),
-  (
-    each (λ (d : ℕ). T (hasRow table 23 d)) (0 ∷ []) (tt, tt),
-    (
-      λ d t. malformed (eqb place 0) (among openerKinds kind),
-      (each (λ (d : ℕ). T (hasRow table 25 d)) (0 ∷ []) (tt, tt), (λ d t. beyond (eqb kind 9), tt)),
-    ),
-  ),
-)
+replayed : (kind place n d : ℕ) → T (among refusalNumbers n) → T (among (divergencesOf n) d) → T (hasRow table n (detailOf n place d kind))
+replayed kind place n d listed of = by-number (eqb n 24) (eqb n 31) refl refl (one-of hasRows refusalNumbers tt n listed)
+  where
+    at-24 : ℕ
+    at-24 = cond (eqb place 0) 0 (cond (among openerKinds kind) 2 1)
+
+    at-31 : ℕ
+    at-31 = cond (eqb kind 9) 1 0
+
+    by-number : (a b : Bool) → eqb n 24 ≡ a → eqb n 31 ≡ b → T (a || (b || all (hasRow table n) (divergencesOf n))) →
+        T (hasRow table n (cond a at-24 (cond b at-31 d)))
+    by-number true b ea eb t =
+        subst (λ (m : ℕ). T (hasRow table m at-24)) (sym (eqb-true n 24 ea)) (malformed (eqb place 0) (among openerKinds kind))
+    by-number false true ea eb t = subst (λ (m : ℕ). T (hasRow table m at-31)) (sym (eqb-true n 31 eb)) (beyond (eqb kind 9))
+    by-number false false ea eb t = one-of (hasRow table n) (divergencesOf n) t d of
 
 kept-worded : {capability : ClockCapability} {plan : List PlanStep} {records : List RecordRef} (answer : Answer) (kind : ℕ) →
     Promise capability plan records answer → Worded answer kind
 kept-worded (Answer.Ok ending stop records calls) kind kept = ending-worded ending kind
 kept-worded (Answer.No number place divergence calls) kind kept =
     let listed = promise-listed kept in
-    each (Replayed kind place) refusalNumbers (replayed kind place) number (listed .0) divergence (listed .1)
+    replayed kind place number divergence (listed .0) (listed .1)
 
 module _ (j p : List ℕ) (kind : ℕ) where
+  read : (n place : ℕ) → T (among readingNumbers n) → T (hasRow table n (detailOf n place 0 kind))
+  read n place listed = one-of (λ (m : ℕ). hasRow table m (detailOf m place 0 kind)) readingNumbers (read-worded kind place) n listed
+
   by-readings : (a b : FileRead) → readRule Format.Journal j ≡ a → readRule Format.Plan p ≡ b →
       KeptBy a b j p (verdictBy (asJournal a) (asPlan b) j p) → Worded (verdictBy (asJournal a) (asPlan b) j p) kind
-  by-readings (FileRead.Refused n place) b ea eb k =
-      each (Read kind place) (checkNumbers Format.Journal) (journal-worded kind place) n (refused-number Format.Journal j ea)
-  by-readings (FileRead.Readable run count) (FileRead.Refused n place) ea eb k =
-      each (Read kind place) (checkNumbers Format.Plan) (plan-worded kind place) n (refused-number Format.Plan p eb)
+  by-readings (FileRead.Refused n place) b ea eb k = read n place (refused-reading Format.Journal j ea)
+  by-readings (FileRead.Readable run count) (FileRead.Refused n place) ea eb k = read n place (refused-reading Format.Plan p eb)
   by-readings (FileRead.Readable run count) (FileRead.Readable board steps) ea eb k =
       kept-worded (verdictBy (asJournal (FileRead.Readable run count)) (asPlan (FileRead.Readable board steps)) j p) kind (k .1 .1)
 
