@@ -8,4 +8,8 @@ pub mod Passing
 pub mod Laws
 pub mod Bodies
 pub mod Canonical
+pub mod ReadBy
 pub mod ByTable
+pub mod ZeroTimers
+pub mod Untouched
+pub mod Smallest

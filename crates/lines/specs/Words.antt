@@ -59,7 +59,8 @@ table =
     row 24 2 "An open step is never shown as done: record # is not the outcome of the step opened before it" ∷
     row 25 0 "Recorded timers fit this board's clocks: the next step's timer, due at record #, does not" ∷
     row 31 0 "Each step matches the plan: record # opens a step beyond the plan's last" ∷
-    row 31 1 "Each step matches the plan: record # is a version marker after the plan's last step" ∷ []
+    row 31 1 "Each step matches the plan: record # is a version marker after the plan's last step" ∷
+    row 44 0 "Plan: entry # is a timer of 0: fill in the incubation" ∷ []
 
 abbrev pub otherWords : String
 otherWords = "No file can give this answer: keep both files and report them"

@@ -149,6 +149,7 @@ fn said(number: u64, detail: u64, n: u64) -> Line
         25 0 Recorded timers fit this board's clocks: the next step's timer, due at record #, does not\n\
         31 0 Each step matches the plan: record # opens a step beyond the plan's last\n\
         31 1 Each step matches the plan: record # is a version marker after the plan's last step\n\
+        44 0 Plan: entry # is a timer of 0: fill in the incubation\n\
         ",
         number,
         detail,
