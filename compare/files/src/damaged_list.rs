@@ -194,7 +194,7 @@ fn limits(files: &mut Vec<Vec<u8>>, format: Format) {
     }
 }
 
-/// What only a plan refuses: S, clocks, M of a timer.
+/// What only a plan refuses: S, clocks, M of a timer, a timer of 0.
 fn plan_fields(files: &mut Vec<Vec<u8>>, format: Format) {
     let mut entries = Vec::new();
     for clock in [0, 1, 2, 3, 4, 255] {
@@ -209,8 +209,15 @@ fn plan_fields(files: &mut Vec<Vec<u8>>, format: Format) {
             entries.push(Entry { s, ..plain });
         }
         entries.extend([1, u64::MAX].map(|m| Entry { m, ..plain }));
-        entries.extend([1, u64::MAX].map(|d| Entry { d, ..plain }));
+        entries.extend([0, 1, u64::MAX].map(|d| Entry { d, ..plain }));
         entries.extend([1, u16::MAX].map(|a| Entry { a, ..plain }));
+    }
+    for clock in [0, 2, 3] {
+        entries.push(Entry {
+            clock,
+            d: 0,
+            ..right(format)
+        });
     }
     for entry in entries {
         files.push(table(format, vec![entry]).bytes());
@@ -218,10 +225,14 @@ fn plan_fields(files: &mut Vec<Vec<u8>>, format: Format) {
     }
 }
 
-/// A wrong kind and a wrong field at the first, a middle and the last place.
+/// A wrong kind, a wrong field and a timer of 0 at the first, a middle and the last place.
 fn places(files: &mut Vec<Vec<u8>>, format: Format) {
     let right = right(format);
-    let wrong = [Entry { kind: 0, ..right }, Entry { a: 1, ..right }];
+    let wrong = [
+        Entry { kind: 0, ..right },
+        Entry { a: 1, ..right },
+        Entry { d: 0, ..right },
+    ];
     for count in [1, 3, 1_024] {
         for place in [0, count / 2, count - 1] {
             for entry in wrong {
@@ -233,12 +244,15 @@ fn places(files: &mut Vec<Vec<u8>>, format: Format) {
     }
 }
 
-/// 7 comes before 8 in an entry, an earlier entry before a later one, and 9 last.
+/// 7 comes before 8 in an entry and 8 before a timer of 0, an earlier entry before a later one, and
+/// 9 last.
 fn orders(files: &mut Vec<Vec<u8>>, format: Format) {
     let right = right(format);
     let kind = Entry { kind: 10, ..right };
     let field = Entry { a: 1, ..right };
     let both = Entry { kind: 10, ..field };
+    let zero = Entry { d: 0, ..right };
+    let zero_and_field = Entry { d: 0, ..field };
     for entries in [
         vec![both],
         vec![right, both, right],
@@ -247,6 +261,13 @@ fn orders(files: &mut Vec<Vec<u8>>, format: Format) {
         vec![right, field, kind],
         vec![right, kind, field],
         vec![field, both],
+        vec![zero],
+        vec![zero_and_field],
+        vec![zero, kind],
+        vec![kind, zero],
+        vec![zero, field],
+        vec![field, zero],
+        vec![right, zero, zero],
     ] {
         let mut file = table(format, entries);
         files.push(file.bytes());

@@ -1,5 +1,5 @@
-//! The edges of the fields' bounds. All parts but the last (`together`) have the number that is owed
-//! written out: the table of the plain reader has no part in those.
+//! The edges of the fields' bounds, and a plan's timers of 0. All parts but the last (`together`) have
+//! the number that is owed written out: the rules of the plain reader have no part in those.
 
 use crate::compared_files::Compared;
 use crate::made_files::set_field;
@@ -10,6 +10,8 @@ use crate::writing::File;
 
 pub fn run(compared: &mut Compared) {
     timers(compared);
+    zero_timers(compared);
+    not_filled_in(compared);
     bodies(compared);
     unknown_kinds(compared);
     one_bit_more(compared);
@@ -18,15 +20,91 @@ pub fn run(compared: &mut Compared) {
 
 /// A file of this one entry, without a body, has this number on both sides.
 fn owed(compared: &mut Compared, format: Format, entry: Entry, number: u64) {
+    owed_by(compared, format, &[entry], 0, (number, 0));
+}
+
+/// A file of these entries and so many bytes of bodies has this number and place on both sides.
+fn owed_by(
+    compared: &mut Compared,
+    format: Format,
+    entries: &[Entry],
+    bodies: usize,
+    refusal: (u64, u64),
+) {
     let mut file = File::new(format, 0);
-    file.push(entry, None);
+    for entry in entries {
+        file.push(*entry, None);
+    }
+    file.bodies = vec![0; bodies];
     let file = file.bytes();
-    let said = numbers::read(format, &file).number;
+    let said = numbers::read(format, &file);
     assert_eq!(
-        said, number,
-        "an edge, the plain reader beside what is owed: {format:?} {entry:?}"
+        (said.number, said.place),
+        refusal,
+        "an edge, the plain reader beside what is owed: {format:?} {entries:?}"
     );
     compared.file(format, &file);
+}
+
+/// A timer of 0 on either clock is 44 in a plan and is read in a journal. A wrong field is 18 first.
+/// Nothing else that has D 0 is touched.
+fn zero_timers(compared: &mut Compared) {
+    for clock in [1, 2] {
+        let zero = Entry {
+            kind: 5,
+            clock,
+            ..Entry::default()
+        };
+        owed(compared, Format::Plan, zero, 44);
+        owed(compared, Format::Plan, Entry { d: 1, ..zero }, 0);
+        owed(compared, Format::Plan, Entry { d: 1 << 32, ..zero }, 0);
+        owed(compared, Format::Journal, zero, 0);
+        owed(compared, Format::Plan, Entry { s: 1, ..zero }, 18);
+        owed(compared, Format::Plan, Entry { m: 1, ..zero }, 18);
+        owed(compared, Format::Plan, Entry { a: 1, ..zero }, 18);
+        owed(compared, Format::Plan, Entry { kind: 6, ..zero }, 17);
+    }
+    for clock in [0, 3, 255] {
+        let zero = Entry {
+            kind: 5,
+            clock,
+            ..Entry::default()
+        };
+        owed(compared, Format::Plan, zero, 18);
+        owed(compared, Format::Journal, zero, 0);
+    }
+    owed(compared, Format::Plan, empty_entry(Format::Plan, 2), 0);
+    for kind in [1, 2, 5, 9] {
+        let zero = empty_entry(Format::Journal, kind);
+        owed(compared, Format::Journal, zero, 0);
+    }
+}
+
+/// 44 has its entry as its place. It comes before the next entry and before the sum of the bodies.
+fn not_filled_in(compared: &mut Compared) {
+    let plan = Format::Plan;
+    let (effect, timer) = (empty_entry(plan, 2), empty_entry(plan, 5));
+    let zero = Entry { d: 0, ..timer };
+    let bad_kind = empty_entry(plan, 3);
+    let bad_field = Entry { s: 1, ..effect };
+    for (entries, bodies, refusal) in [
+        (vec![zero, bad_kind], 0, (44, 0)),
+        (vec![zero, bad_field], 0, (44, 0)),
+        (vec![bad_kind, zero], 0, (17, 0)),
+        (vec![bad_field, zero], 0, (18, 0)),
+        (vec![zero], 1, (44, 0)),
+        (vec![timer], 1, (19, 0)),
+        (vec![effect, timer, zero, timer], 0, (44, 2)),
+        (vec![effect, zero, zero], 3, (44, 1)),
+        (vec![timer; 4], 0, (0, 0)),
+    ] {
+        owed_by(compared, plan, &entries, bodies, refusal);
+    }
+    for place in 0..1_024 {
+        let mut entries = vec![timer; 1_024];
+        entries[place] = zero;
+        owed_by(compared, plan, &entries, 0, (44, place as u64));
+    }
 }
 
 /// A timer's clock 255, its S 2^32 - 1, its D and M 2^64 - 1 are read.
@@ -93,8 +171,8 @@ fn unknown_kinds(compared: &mut Compared) {
     }
 }
 
-/// Every field at its greatest value, and the fields that are narrower than their place one bit wider.
-fn one_bit_more(compared: &mut Compared) {
+/// Entries with every field at its greatest value, but for bodies' lengths, which are 0.
+fn full_entries() -> [Entry; 5] {
     let schedule = Entry {
         kind: 2,
         clock: 0,
@@ -123,7 +201,12 @@ fn one_bit_more(compared: &mut Compared) {
         kind: 7,
         ..Entry::default()
     };
-    for entry in [schedule, start, marker, fired, ended] {
+    [schedule, start, marker, fired, ended]
+}
+
+/// Those are read; with one bit more in a field that is narrower than its place they are 8.
+fn one_bit_more(compared: &mut Compared) {
+    for entry in full_entries() {
         owed(compared, Format::Journal, entry, 0);
         let values = [
             entry.clock.into(),
@@ -144,8 +227,8 @@ fn one_bit_more(compared: &mut Compared) {
     }
 }
 
-/// In kinds 0 to 10 all fields at once, each at 0, at its greatest value and one above, which is 0
-/// again where the field is no wider.
+/// In kinds 0 to 10 all fields at once, each as it is in an empty entry, at its greatest value and one
+/// above, which is 0 where the field is no wider.
 fn together(compared: &mut Compared) {
     for format in FORMATS {
         for kind in 0..=10 {

@@ -16,7 +16,7 @@ pub fn run(compared: &mut Compared) {
 /// An entry that is right in both formats.
 const TIMER: [u8; ENTRY] = {
     let mut bytes = [0; ENTRY];
-    (bytes[0], bytes[1]) = (5, 1);
+    (bytes[0], bytes[1], bytes[8]) = (5, 1, 1);
     bytes
 };
 
@@ -147,18 +147,23 @@ fn one_entry(compared: &mut Compared, format: Format, mut entry: Entry) {
     }
 }
 
-/// Three entries, each right, of a wrong kind, with a wrong field or both, and body bytes
-/// right or wrong: these show which check comes first.
+/// Three entries, each right, of a wrong kind, with a wrong field or both, a timer of 0, or a timer of
+/// 0 with a wrong field, and body bytes right or wrong: these show which check comes first.
 fn orders(compared: &mut Compared) {
     for format in FORMATS {
         let right = empty_entry(format, 2);
         let kind = Entry { kind: 10, ..right };
         let field = Entry { clock: 1, ..right };
         let both = Entry { kind: 0, ..field };
-        let choices = [right, kind, field, both];
-        for number in 0..64 {
+        let zero = Entry {
+            d: 0,
+            ..empty_entry(format, 5)
+        };
+        let zero_and_field = Entry { a: 1, ..zero };
+        let choices = [right, kind, field, both, zero, zero_and_field];
+        for number in 0..216 {
             let mut file = File::new(format, 0);
-            file.entries = [number % 4, number / 4 % 4, number / 16]
+            file.entries = [number % 6, number / 6 % 6, number / 36]
                 .map(|choice: usize| choices[choice])
                 .to_vec();
             for bodies in [0, 1, 5] {
@@ -178,7 +183,17 @@ fn places(compared: &mut Compared) {
             let good = file.bytes();
             compared.file(format, &good);
             for place in 0..count {
-                for (at, byte) in [(0, 0), (0, 1), (0, 10), (1, 3), (2, 1), (4, 1), (16, 1)] {
+                let wrong = [
+                    (0, 0),
+                    (0, 1),
+                    (0, 10),
+                    (1, 3),
+                    (2, 1),
+                    (4, 1),
+                    (8, 0),
+                    (16, 1),
+                ];
+                for (at, byte) in wrong {
                     let mut file = good.clone();
                     file[HEADER + ENTRY * place + at] = byte;
                     compared.file(format, &file);

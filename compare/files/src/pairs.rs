@@ -18,6 +18,12 @@ pub static BODIES: [u8; MOST_BYTES] = {
     bytes
 };
 
+/// What no plan may have: a timer of 0, on either clock.
+const ZERO_TIMERS: [TimerSpec; 2] = [
+    TimerSpec::AfterBoot { ticks: 0 },
+    TimerSpec::AtPersistentTime { instant: 0 },
+];
+
 /// An entry and its body.
 pub type Item = (Entry, &'static [u8]);
 
@@ -29,7 +35,7 @@ pub fn body(random: &mut Random, most: usize) -> &'static [u8] {
 }
 
 pub fn random_step(random: &mut Random, most_body: usize) -> Step<'static> {
-    let deadline = random.any();
+    let deadline = random.any().max(1);
     match random.below(6) {
         0 => Step::Timer(TimerSpec::AfterBoot { ticks: deadline }),
         1 => Step::Timer(TimerSpec::AtPersistentTime { instant: deadline }),
@@ -172,7 +178,8 @@ pub fn journal_of(run: u64, items: &[Item]) -> File {
     file
 }
 
-/// A plan of so many steps, and one of its histories, with some damage or none.
+/// A plan of so many steps, now and then with a timer of 0, and one of its histories, with some damage
+/// or none.
 pub struct Pair {
     pub capability: ClockCapability,
     pub steps: Vec<Step<'static>>,
@@ -190,6 +197,10 @@ impl Pair {
             steps: (0..steps).map(|_| random_step(random, most_body)).collect(),
             items: Vec::new(),
         };
+        if steps > 0 && random.one_in(50) {
+            let at = random.below(steps as u64) as usize;
+            pair.steps[at] = Step::Timer(random.pick(&ZERO_TIMERS));
+        }
         if !random.one_in(50) {
             let stop = random.below(steps as u64 + 1) as usize;
             pair.items = history(random, &pair.steps, stop, most_body);

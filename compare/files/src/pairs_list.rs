@@ -282,6 +282,7 @@ fn other_openers(right: Entry) -> Vec<Entry> {
         others.extend([kind, Entry { s, ..kind }, Entry { d, ..kind }]);
     } else {
         others.extend([0, 1, 2, 3].map(|clock| Entry { clock, ..right }));
+        others.push(Entry { d: 0, ..right });
         others.extend([2, 255].map(|clock| Entry { clock, s, ..right }));
     }
     others

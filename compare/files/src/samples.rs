@@ -24,12 +24,14 @@ pub fn kinds(format: Format) -> &'static [u8] {
     }
 }
 
-/// An entry of this kind with empty fields; it is right if the format has the kind.
+/// An entry of this kind with empty fields, but for the clock and the deadline of a plan's timer,
+/// which are 1; it is right if the format has the kind.
 pub fn empty_entry(format: Format, kind: u8) -> Entry {
-    let clock = u8::from(format == Format::Plan && kind == 5);
+    let timer = u8::from(format == Format::Plan && kind == 5);
     Entry {
         kind,
-        clock,
+        clock: timer,
+        d: timer.into(),
         ..Entry::default()
     }
 }
@@ -65,7 +67,7 @@ pub fn random_entry(random: &mut Random, format: Format, kind: u8) -> Entry {
         }
         5 => {
             entry.clock = random.pick(&[1, 2]);
-            entry.d = random.any();
+            entry.d = random.any().max(entry.d);
         }
         _ => {}
     }
