@@ -92,6 +92,7 @@ enum {
     HISKURDO_REFUSED_CLOCK_WENT_BACKWARDS = 26,
     HISKURDO_REFUSED_BEYOND_PLAN = 31,
     HISKURDO_REFUSED_NO_BYTES = 32,
+    HISKURDO_REFUSED_PLAN_ZERO_TIMER = 44,
     HISKURDO_REFUSED_NAMES_NOTHING = 60,
 };
 
@@ -123,8 +124,8 @@ extern "C" {
 /* What reading says of a file.
  * number 0: it is readable. head is the run number of a journal, the capability of a plan; count is how many records or steps
  * it has; place is 0.
- * Any other number is the refusal: 1 to 9 for a journal (no 5), 11 to 19 for a plan. place is the entry for 7, 8, 17 and 18,
- * else 0; head and count are 0. */
+ * Any other number is the refusal: 1 to 9 for a journal (no 5), 11 to 19 and 44 for a plan. place is the entry for 7, 8, 17, 18
+ * and 44, else 0; head and count are 0. */
 typedef struct {
     uint64_t number;
     uint64_t place;
@@ -159,17 +160,17 @@ typedef struct {
  * or step in order, each with its whole body. From the header's count on the kind is 0.
  * On any other bytes, and from any other place, the kind is also 0 where it is unknown, where a step is a timer on another clock
  * than 1 or 2, or where the entry, or a body of its length from there, does not lie within the file. A field that no readable
- * file can have is cut to its width: so read a file before walking it. */
+ * file can have is cut to its width, and a timer of 0 in a plan is a step: so read a file before walking it. */
 HiskurdoEntryNumbers hiskurdo_next_record(const uint8_t *file, size_t file_len, uint64_t entry, uint64_t body);
 HiskurdoEntryNumbers hiskurdo_next_step(const uint8_t *file, size_t file_len, uint64_t entry, uint64_t body);
 
 /* The verdict on a journal and a plan. What does not apply is 0.
  * refused 0: ending, stop (how many steps have an outcome), records and calls. The records are a history of the plan with
  * that ending and stop, and with no other.
- * refused 1: number, place (the record, or the record count at the end; for 7, 8, 17 and 18 the entry; else 0), divergence
- * (with 22) and calls. number is 1 to 19 exactly where a file is not readable, the journal read first. Else the records are
- * no history of the plan: the first place of them begin one and the first place + 1 do not, or place is the count of records
- * and the step that is next is a timer for which the plan's capability has no clock. */
+ * refused 1: number, place (the record, or the record count at the end; for 7, 8, 17, 18 and 44 the entry; else 0), divergence
+ * (with 22) and calls. number is 1 to 19 or 44 exactly where a file is not readable, the journal read first. Else the records
+ * are no history of the plan: the first place of them begin one and the first place + 1 do not, or place is the count of
+ * records and the step that is next is a timer for which the plan's capability has no clock. */
 typedef struct {
     uint64_t refused;
     uint64_t ending;
