@@ -12,4 +12,4 @@ pub mod ReadBy
 pub mod ByTable
 pub mod ZeroTimers
 pub mod Untouched
-pub mod Smallest
+pub mod Small
