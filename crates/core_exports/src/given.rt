@@ -183,11 +183,12 @@ fn divergence_of(n: u8) -> DivergenceOption
     match n {
         1 => DivergenceOption::Some(Divergence::Sequence),
         2 => DivergenceOption::Some(Divergence::Kind),
-        3 => DivergenceOption::Some(Divergence::Digest),
         4 => DivergenceOption::Some(Divergence::BoundaryKind),
         5 => DivergenceOption::Some(Divergence::Gate),
         6 => DivergenceOption::Some(Divergence::Deadline),
         7 => DivergenceOption::Some(Divergence::Boundary),
+        8 => DivergenceOption::Some(Divergence::Length),
+        9 => DivergenceOption::Some(Divergence::Crc),
         _ => DivergenceOption::None,
     }
 }

@@ -50,9 +50,10 @@ table =
     row 19 0 "Plan: the inputs' lengths do not sum to the header's" ∷
     row 22 1 "Steps carry consecutive numbers: record # has another number (a dispense lost or doubled)" ∷
     row 22 2 "Each step matches the plan: record # has another activity" ∷
-    row 22 3 "Each step matches the plan: record # has another input, by its length or CRC" ∷
     row 22 4 "Each step matches the plan: record # is of another kind (or a step before it was lost or doubled)" ∷
     row 22 6 "Each step matches the plan: record # has another clock or deadline" ∷
+    row 22 8 "Each step matches the plan: record # has another input length" ∷
+    row 22 9 "Each step matches the plan: record # has the same input length, another CRC" ∷
     row 23 0 "Recorded timers fit this board's clocks: the timer of record # does not" ∷
     row 24 0 "First record opens the run: record # does not (a file from another stage)" ∷
     row 24 1 "Steps carry consecutive numbers: record # cannot follow the one before it (lost or doubled)" ∷

@@ -139,9 +139,10 @@ fn said(number: u64, detail: u64, n: u64) -> Line
         19 0 Plan: the inputs' lengths do not sum to the header's\n\
         22 1 Steps carry consecutive numbers: record # has another number (a dispense lost or doubled)\n\
         22 2 Each step matches the plan: record # has another activity\n\
-        22 3 Each step matches the plan: record # has another input, by its length or CRC\n\
         22 4 Each step matches the plan: record # is of another kind (or a step before it was lost or doubled)\n\
         22 6 Each step matches the plan: record # has another clock or deadline\n\
+        22 8 Each step matches the plan: record # has another input length\n\
+        22 9 Each step matches the plan: record # has the same input length, another CRC\n\
         23 0 Recorded timers fit this board's clocks: the timer of record # does not\n\
         24 0 First record opens the run: record # does not (a file from another stage)\n\
         24 1 Steps carry consecutive numbers: record # cannot follow the one before it (lost or doubled)\n\
