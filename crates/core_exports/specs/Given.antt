@@ -117,17 +117,6 @@ cursorWith IdsOption.None state = CursorOption.None
 abbrev pub cursorNamed : CursorNumbers → CursorOption
 cursorNamed n = cursorWith (idsNamed (n .ids)) (stateNamed n)
 
--- the divergence with the number n
-abbrev pub divergenceNamed : ℕ → DivergenceOption
-divergenceNamed n =
-    cond (eqb n 1) (DivergenceOption.Some Divergence.Sequence)
-    (cond (eqb n 2) (DivergenceOption.Some Divergence.Kind)
-    (cond (eqb n 3) (DivergenceOption.Some Divergence.Digest)
-    (cond (eqb n 4) (DivergenceOption.Some Divergence.BoundaryKind)
-    (cond (eqb n 5) (DivergenceOption.Some Divergence.Gate)
-    (cond (eqb n 6) (DivergenceOption.Some Divergence.Deadline)
-    (cond (eqb n 7) (DivergenceOption.Some Divergence.Boundary) DivergenceOption.None))))))
-
 abbrev pub divergedBy : DivergenceOption → PhaseOption
 divergedBy (DivergenceOption.Some d) = PhaseOption.Some (Phase.Diverged d)
 divergedBy DivergenceOption.None = PhaseOption.None
