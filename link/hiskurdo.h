@@ -96,15 +96,16 @@ enum {
     HISKURDO_REFUSED_NAMES_NOTHING = 60,
 };
 
-/* What differs, with refusal 22. 5 and 7 come from no file. */
+/* What differs, with refusal 22. 5 and 7 come from no file; there is no 3. */
 enum {
     HISKURDO_DIVERGENCE_SEQUENCE = 1,
     HISKURDO_DIVERGENCE_KIND = 2,
-    HISKURDO_DIVERGENCE_DIGEST = 3,
     HISKURDO_DIVERGENCE_BOUNDARY_KIND = 4,
     HISKURDO_DIVERGENCE_GATE = 5,
     HISKURDO_DIVERGENCE_DEADLINE = 6,
     HISKURDO_DIVERGENCE_BOUNDARY = 7,
+    HISKURDO_DIVERGENCE_LENGTH = 8,
+    HISKURDO_DIVERGENCE_CRC = 9,
 };
 
 /* What is handed over. */

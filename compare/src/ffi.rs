@@ -114,8 +114,9 @@ pub struct MachineAnswered {
 
 /// The number of an answer where a given number names nothing: a kind of record that is none of 1 to 9, a clock of a spec that
 /// is not 1 or 2, a capability or a flag (`offers`, `committed`, `ended`) that is not 0 or 1, a position above 6, a halted
-/// position's error that is none of 21 to 26, a phase above 3, a diverged phase's divergence that is none of 1 to 7. The state
-/// in the answer is then the one that was given, number by number. An answer that is one value has the number 0, or this one.
+/// position's error that is none of 21 to 26, a phase above 3, a diverged phase's divergence that is none of 1, 2 and
+/// 4 to 9. The state in the answer is then the one that was given, number by number. An answer that is one value has the number 0,
+/// or this one.
 pub const NAMES_NOTHING: u64 = 60;
 
 unsafe extern "C" {

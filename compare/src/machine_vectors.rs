@@ -133,8 +133,14 @@ fn effects(calls: &mut Vec<Call>) {
         kind,
         RecordNumbers { d: 4, ..same },
         RecordNumbers { m: 98, ..same },
+        RecordNumbers {
+            d: 4,
+            m: 98,
+            ..same
+        },
         RecordNumbers { s: 2, ..kind },
         RecordNumbers { d: 6, ..kind },
+        RecordNumbers { m: 98, ..kind },
         RecordNumbers {
             d: 0x1_0005,
             m: 0x1_0000_0063,
@@ -193,13 +199,11 @@ fn timers(calls: &mut Vec<Call>) {
     }
 }
 
-fn scripts() -> [Vec<Call>; 4] {
-    [
-        delivered_again(),
-        armed_again(),
-        kept_divergence(),
-        whole_run(),
-    ]
+fn scripts() -> Vec<Vec<Call>> {
+    let mut scripts = vec![delivered_again(), armed_again()];
+    scripts.extend(OTHERS.map(kept_divergence));
+    scripts.push(whole_run());
+    scripts
 }
 
 /// An effect that is recorded with no outcome: it is delivered again, then resolved.
@@ -253,20 +257,33 @@ fn armed_again() -> Vec<Call> {
     ]
 }
 
+/// Requests that differ from `REQUEST` in activity, in length and in CRC.
+const OTHERS: [RequestNumbers; 3] = [
+    RequestNumbers { kind: 5, ..REQUEST },
+    RequestNumbers {
+        input_len: 6,
+        ..REQUEST
+    },
+    RequestNumbers {
+        input_crc: 98,
+        ..REQUEST
+    },
+];
+
 /// The first divergence stays, whatever is asked for later.
-fn kept_divergence() -> Vec<Call> {
-    let other = RequestNumbers { kind: 5, ..REQUEST };
+fn kept_divergence(first: RequestNumbers) -> Vec<Call> {
     let next = NextNumbers::of(plain(2, 0));
-    let asked = [other, REQUEST].map(|request| Call::Intent { request, next });
-    vec![
-        Call::MachineAdvance(plain(1, 0)),
-        asked[0],
-        asked[1],
+    let asked = |request| Call::Intent { request, next };
+    let mut calls = vec![Call::MachineAdvance(plain(1, 0)), asked(first)];
+    calls.extend(OTHERS.map(asked));
+    calls.extend([
+        asked(REQUEST),
         timer_intent(NextNumbers::of(plain(9, 0))),
         intent(NextNumbers::of(plain(5, 0))),
         Call::MachineAdvance(plain(2, 0)),
         Call::Outcome(NextNumbers::of(plain(3, 0))),
-    ]
+    ]);
+    calls
 }
 
 /// Effects and a timer with large fields, replayed to the end of the run.

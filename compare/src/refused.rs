@@ -2,8 +2,6 @@
 //! the state that it was given. Where every number is listed, no export answers 60. The Rust
 //! has no such numbers, so the lists stand here a second time, apart from the proved code.
 
-use std::ops::RangeInclusive;
-
 use crate::Settings;
 use crate::both::Both;
 use crate::ffi::*;
@@ -23,33 +21,36 @@ struct Given {
     request: RequestNumbers,
 }
 
-const FLAG: RangeInclusive<u8> = 0..=1;
+const FLAG: &[u8] = &[0, 1];
+const POSITIONS: &[u8] = &[0, 1, 2, 3, 4, 5, 6];
+const ERRORS: &[u8] = &[21, 22, 23, 24, 25, 26];
+const DIVERGENCES: &[u8] = &[1, 2, 4, 5, 6, 7, 8, 9];
 
 /// Each listed number of `Given`, with the values that name something.
-type Listed = (fn(&mut Given) -> &mut u8, RangeInclusive<u8>);
+type Listed = (fn(&mut Given) -> &mut u8, &'static [u8]);
 
 const LISTED: [Listed; 14] = [
     (|given| &mut given.ids.offers, FLAG),
     (|given| &mut given.committed, FLAG),
-    (|given| &mut given.spec.clock, 1..=2),
+    (|given| &mut given.spec.clock, &[1, 2]),
     (|given| &mut given.capability, FLAG),
     (|given| &mut given.ended, FLAG),
-    (|given| &mut given.record.kind, 1..=9),
+    (|given| &mut given.record.kind, &[1, 2, 3, 4, 5, 6, 7, 8, 9]),
     (|given| &mut given.cursor.ids.offers, FLAG),
-    (|given| &mut given.cursor.position, 0..=6),
-    (|given| &mut given.cursor.error, 21..=26),
+    (|given| &mut given.cursor.position, POSITIONS),
+    (|given| &mut given.cursor.error, ERRORS),
     (|given| &mut given.machine.cursor.ids.offers, FLAG),
-    (|given| &mut given.machine.cursor.position, 0..=6),
-    (|given| &mut given.machine.cursor.error, 21..=26),
-    (|given| &mut given.machine.phase, 0..=3),
-    (|given| &mut given.machine.divergence, 1..=7),
+    (|given| &mut given.machine.cursor.position, POSITIONS),
+    (|given| &mut given.machine.cursor.error, ERRORS),
+    (|given| &mut given.machine.phase, &[0, 1, 2, 3]),
+    (|given| &mut given.machine.divergence, DIVERGENCES),
 ];
 
 pub fn run(settings: &Settings, both: &mut Both) {
     let mut random = Random::new(settings.seed);
     for position in 0..=6 {
         for phase in 0..=3 {
-            for ended in FLAG {
+            for &ended in FLAG {
                 let mut given = listed(&mut random);
                 given.cursor.position = position;
                 given.machine.cursor.position = position;
@@ -101,8 +102,7 @@ fn listed(random: &mut Random) -> Given {
     given.machine.cursor = cursor(random);
     given.request.kind = random.next() as u16;
     for (field, values) in LISTED {
-        let many = values.end() - values.start() + 1;
-        *field(&mut given) = values.start() + random.below(many.into()) as u8;
+        *field(&mut given) = random.pick(values);
     }
     given
 }
@@ -151,7 +151,7 @@ impl Given {
     fn names_machine(&self) -> bool {
         let phase = match self.machine.phase {
             0..=2 => true,
-            3 => (1..=7).contains(&self.machine.divergence),
+            3 => DIVERGENCES.contains(&self.machine.divergence),
             _ => false,
         };
         names_cursor(&self.machine.cursor) && phase
@@ -161,7 +161,7 @@ impl Given {
 fn names_cursor(cursor: &CursorNumbers) -> bool {
     let position = match cursor.position {
         0..=5 => true,
-        6 => (21..=26).contains(&cursor.error),
+        6 => ERRORS.contains(&cursor.error),
         _ => false,
     };
     cursor.ids.offers <= 1 && position

@@ -2,7 +2,8 @@
 
 use waymaker_core::{
     ActivityKind, Divergence, EffectId, EffectRequest, EffectSeq, Intent, KernelError, Next,
-    Outcome, PendingEffect, ReplayMachine, Resolve, RunId, TimerIntent, TimerRequest, TimerResolve,
+    Outcome, PendingEffect, RecordRef, ReplayMachine, Resolve, RunId, TimerIntent, TimerRequest,
+    TimerResolve,
 };
 
 use crate::calls::{Call, MachineRead, NextNumbers};
@@ -12,13 +13,37 @@ use crate::rust_values::{
     told_pending, told_pending_timer, told_position, told_step,
 };
 
-pub fn call(machine: &mut ReplayMachine, call: &Call) -> Told {
+/// What the Rust's Digest stands for, by document 02: "8 where the input lengths differ, else 9".
+/// The Rust has one case for both and does not say which, so the driver looks at the request and
+/// the record itself.
+#[derive(Clone, Copy, PartialEq, Eq, Debug)]
+pub enum Digest {
+    Length = 8,
+    Crc = 9,
+}
+
+impl Digest {
+    fn between(asked_len: u16, recorded_len: u16) -> Digest {
+        match asked_len == recorded_len {
+            false => Digest::Length,
+            true => Digest::Crc,
+        }
+    }
+}
+
+/// Makes the call. `digest` is what the machine's Digest stands for, if it has one.
+pub fn call(machine: &mut ReplayMachine, digest: &mut Option<Digest>, call: &Call) -> Told {
     match *call {
         Call::MachineAdvance(record) => advance(machine, &record),
-        Call::Intent { request, next } => told_result(
-            machine.intent(request_of(request), next_of(&next)),
-            told_intent,
-        ),
+        Call::Intent { request, next } => {
+            let before = machine.diverged();
+            let next = next_of(&next);
+            let answer = told_result(machine.intent(request_of(request), next), told_intent);
+            if before.is_none() && machine.diverged() == Some(Divergence::Digest) {
+                *digest = digest_of(request, next);
+            }
+            answer
+        }
         Call::Outcome(next) => told_result(machine.outcome(next_of(&next)), told_resolve),
         Call::TimerIntent {
             spec,
@@ -45,13 +70,23 @@ pub fn advance(machine: &mut ReplayMachine, record: &RecordNumbers) -> Told {
     told_result(machine.advance(record_of(record)), |step| told_step(&step))
 }
 
-pub fn read(machine: &ReplayMachine) -> MachineRead {
+/// None where no schedule is next: then a Digest has no number, and is a difference.
+fn digest_of(request: RequestNumbers, next: Next<'_>) -> Option<Digest> {
+    match next {
+        Next::Record(RecordRef::EffectScheduled { input_len, .. }) => {
+            Some(Digest::between(request.input_len, input_len))
+        }
+        _ => None,
+    }
+}
+
+pub fn read(machine: &ReplayMachine, digest: Option<Digest>) -> MachineRead {
     MachineRead {
         run: machine.run().0,
         position: told_position(machine.position()),
         pending: told_pending(machine.pending()),
         pending_timer: told_pending_timer(machine.pending_timer()),
-        diverged: divergence_number(machine.diverged()),
+        diverged: divergence_number(machine.diverged(), digest),
     }
 }
 
@@ -71,21 +106,24 @@ pub fn number(machine: &mut ReplayMachine) -> u32 {
 }
 
 pub fn divergence(request: RequestNumbers, recorded: PendingNumbers, run: u64, seq: u32) -> u8 {
+    let digest = Digest::between(request.input_len, recorded.input_len);
     let recorded = PendingEffect {
         id: id_of(recorded.run, recorded.seq),
         kind: ActivityKind(recorded.kind),
         input_len: recorded.input_len,
         input_crc: recorded.input_crc,
     };
-    divergence_number(request_of(request).divergence_from(&recorded, id_of(run, seq)))
+    let divergence = request_of(request).divergence_from(&recorded, id_of(run, seq));
+    divergence_number(divergence, Some(digest))
 }
 
-fn divergence_number(divergence: Option<Divergence>) -> u8 {
+/// The number of the divergence; 3, which nothing has, for a Digest that stands for neither.
+fn divergence_number(divergence: Option<Divergence>, digest: Option<Digest>) -> u8 {
     match divergence {
         None => 0,
         Some(Divergence::Sequence) => 1,
         Some(Divergence::Kind) => 2,
-        Some(Divergence::Digest) => 3,
+        Some(Divergence::Digest) => digest.map_or(3, |digest| digest as u8),
         Some(Divergence::BoundaryKind) => 4,
         Some(Divergence::Gate) => 5,
         Some(Divergence::Deadline) => 6,

@@ -7,7 +7,7 @@ use waymaker_core::{
 
 use crate::calls::{Answer, Call, CursorRead, IdsRead, MachineRead};
 use crate::ffi::{RecordNumbers, Told};
-use crate::rust_machine;
+use crate::rust_machine::{self, Digest};
 use crate::rust_values::{
     capability_of, record_of, spec_of, told_admits, told_deadline, told_error, told_id,
     told_option, told_pending, told_pending_timer, told_position, told_seq, told_spec, told_step,
@@ -34,6 +34,8 @@ pub struct RustSide {
     pub ids: EffectIdAllocator,
     pub cursor: ReplayCursor,
     pub machine: ReplayMachine,
+    /// What the machine's Digest stands for, if it has one.
+    digest: Option<Digest>,
 }
 
 impl RustSide {
@@ -42,6 +44,7 @@ impl RustSide {
             ids: EffectIdAllocator::for_run(RunId(0)),
             cursor: ReplayCursor::new(RunId(0)),
             machine: ReplayMachine::new(RunId(0)),
+            digest: None,
         }
     }
 
@@ -79,6 +82,7 @@ impl RustSide {
             },
             Call::NewMachine { run } => {
                 self.machine = ReplayMachine::new(RunId(run));
+                self.digest = None;
                 Answer::Machine(self.read_machine())
             }
             Call::MachineAdvance(_)
@@ -86,7 +90,7 @@ impl RustSide {
             | Call::Outcome(_)
             | Call::TimerIntent { .. }
             | Call::TimerOutcome(_) => Answer::Answered {
-                answer: rust_machine::call(&mut self.machine, call),
+                answer: rust_machine::call(&mut self.machine, &mut self.digest, call),
                 machine: self.read_machine(),
             },
             Call::Divergence {
@@ -130,7 +134,7 @@ impl RustSide {
     }
 
     pub fn read_machine(&self) -> MachineRead {
-        rust_machine::read(&self.machine)
+        rust_machine::read(&self.machine, self.digest)
     }
 
     /// The number that a record for the machine must have; the last number where there is none.

@@ -130,8 +130,14 @@ fn effects(right: u32) -> Vec<RecordNumbers> {
         kind,
         RecordNumbers { d: 6, ..same },
         RecordNumbers { m: 98, ..same },
+        RecordNumbers {
+            d: 6,
+            m: 98,
+            ..same
+        },
         RecordNumbers { s: other, ..kind },
         RecordNumbers { d: 6, ..kind },
+        RecordNumbers { m: 98, ..kind },
         RecordNumbers {
             d: 0x7_0000 + same.d,
             m: 0x7_0000_0000 + same.m,

@@ -272,7 +272,8 @@ impl Numbers for MachineNumbers {
             (2, 0) => "AwaitingFiring",
             (3, 1) => "Diverged(Sequence)",
             (3, 2) => "Diverged(Kind)",
-            (3, 3) => "Diverged(Digest)",
+            // The readers say which of the two; the Rust's value does not.
+            (3, 8 | 9) => "Diverged(Digest)",
             (3, 4) => "Diverged(BoundaryKind)",
             (3, 5) => "Diverged(Gate)",
             (3, 6) => "Diverged(Deadline)",

@@ -279,7 +279,8 @@ fn other_openers(right: Entry) -> Vec<Entry> {
     ];
     if right.kind == 2 {
         let kind = Entry { a, ..right };
-        others.extend([kind, Entry { s, ..kind }, Entry { d, ..kind }]);
+        let both = Entry { d, m, ..right };
+        others.extend([both, kind, Entry { s, ..kind }, Entry { d, ..kind }]);
     } else {
         others.extend([0, 1, 2, 3].map(|clock| Entry { clock, ..right }));
         others.push(Entry { d: 0, ..right });

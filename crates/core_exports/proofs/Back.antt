@@ -17,7 +17,7 @@ use Rattle.machine.specs.declared.DivergenceOption.the-variants as DivergenceOp
 use Rattle.machine.specs.declared.Phase.{Phase}
 use Rattle.machine.specs.declared.Phase.the-variants as Phase
 use Rattle.machine.specs.declared.ReplayMachine.{ReplayMachine}
-use Rattle.machine.specs.Divergences.{divergenceNumber}
+use Rattle.machine.specs.Divergences.{divergenceNumber, divergenceNamed}
 use Rattle.core_exports.specs.declared.IdsNumbers.{IdsNumbers}
 use Rattle.core_exports.specs.declared.CursorNumbers.{CursorNumbers}
 use Rattle.core_exports.specs.declared.given.IdsOption.{IdsOption}
@@ -33,7 +33,7 @@ use Rattle.core_exports.specs.declared.given.PhaseOption.the-variants as
 use Rattle.core_exports.specs.declared.given.MachineOption.{MachineOption}
 use Rattle.core_exports.specs.declared.given.MachineOption.the-variants as MachineOption
 use Rattle.core_exports.specs.Given.{idsNamed, errorNamed, haltedBy, stateNamed, cursorWith, cursorNamed}
-use Rattle.core_exports.specs.Given.{divergenceNamed, divergedBy, phaseNamed, machineWith, machineNamed}
+use Rattle.core_exports.specs.Given.{divergedBy, phaseNamed, machineWith, machineNamed}
 use Rattle.core_exports.specs.Numbers.{idsNumbersFor, idsNumbers, cursorNumbersFor, cursorNumbers}
 use Rattle.core_exports.specs.MachineNumbers.{machineNumbersFor, machineNumbers}
 use Rattle.core_exports.proofs.Arms.{by-arms}
@@ -80,7 +80,8 @@ cursor-back c =
 divergence-back : (d : Divergence) → divergenceNamed (divergenceNumber d) ≡ DivergenceOption.Some d
 divergence-back Divergence.Sequence = refl
 divergence-back Divergence.Kind = refl
-divergence-back Divergence.Digest = refl
+divergence-back Divergence.Length = refl
+divergence-back Divergence.Crc = refl
 divergence-back Divergence.BoundaryKind = refl
 divergence-back Divergence.Gate = refl
 divergence-back Divergence.Deadline = refl

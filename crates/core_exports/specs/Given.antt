@@ -13,11 +13,11 @@ use Rattle.records.specs.declared.RecordRefOption.{RecordRefOption}
 use Rattle.records.specs.declared.RecordRefOption.the-variants as RecordRefOption
 use Rattle.records.specs.Fields.{recordBy}
 use Rattle.cursor.specs.declared.State.the-variants as State
-use Rattle.machine.specs.declared.Divergence.the-variants as Divergence
 use Rattle.machine.specs.declared.DivergenceOption.{DivergenceOption}
 use Rattle.machine.specs.declared.DivergenceOption.the-variants as DivergenceOption
 use Rattle.machine.specs.declared.Next.the-variants as Next
 use Rattle.machine.specs.declared.Phase.the-variants as Phase
+use Rattle.machine.specs.Divergences.{divergenceNamed}
 use Rattle.core_exports.specs.declared.IdsNumbers.{IdsNumbers}
 use Rattle.core_exports.specs.declared.SpecNumbers.{SpecNumbers}
 use Rattle.core_exports.specs.declared.RecordNumbers.{RecordNumbers}

@@ -1,7 +1,8 @@
 // What the numbers that a caller gives name: a value, or nothing.
 ghost use mathlib.Core.Path.{_≡_};
 ghost use Rattle.core_exports.specs.Given.{offerNamed, idsNamed, specNamed, errorNamed, recordNamed, stateNamed, cursorNamed};
-ghost use Rattle.core_exports.specs.Given.{nextNamed, divergenceNamed, phaseNamed, machineNamed, turnNamed, timerRequestNamed};
+ghost use Rattle.machine.specs.Divergences.{divergenceNamed};
+ghost use Rattle.core_exports.specs.Given.{nextNamed, phaseNamed, machineNamed, turnNamed, timerRequestNamed};
 use crate::CursorNumbers;
 use crate::IdsNumbers;
 use crate::RecordNumbers;

@@ -4,7 +4,7 @@ use mathlib.Core.Path.{refl}
 use Prim.Native.Nat.{ℕ}
 use borrow.Author.Tests.{ne-eqb}
 use Rattle.errors.proofs.Arms.{by-arm}
-use Rattle.core_exports.specs.Given.{divergenceNamed}
+use Rattle.machine.specs.Divergences.{divergenceNamed}
 use Rattle.core_exports.proofs.given.divergence_of.Statement.{statement}
 use Rattle.core_exports.proofs.given.divergence_of.Tie as tie
 
@@ -38,19 +38,24 @@ returns-7 c =
 
 returns-8 : tie.Need-returns-8
 returns-8 c =
+    by-arm (λ (n : ℕ). divergenceNamed n) (c .match .keys8) refl
+
+returns-9 : tie.Need-returns-9
+returns-9 c =
     let others = c .match .rest in
     rw (
-      ne-eqb _ 1 (others .0 .0 .0 .0 .0 .0 .1),
-      ne-eqb _ 2 (others .0 .0 .0 .0 .0 .1),
-      ne-eqb _ 3 (others .0 .0 .0 .0 .1),
-      ne-eqb _ 4 (others .0 .0 .0 .1),
-      ne-eqb _ 5 (others .0 .0 .1),
-      ne-eqb _ 6 (others .0 .1),
-      ne-eqb _ 7 (others .1),
+      ne-eqb _ 1 (others .0 .0 .0 .0 .0 .0 .0 .1),
+      ne-eqb _ 2 (others .0 .0 .0 .0 .0 .0 .1),
+      ne-eqb _ 4 (others .0 .0 .0 .0 .0 .1),
+      ne-eqb _ 5 (others .0 .0 .0 .0 .1),
+      ne-eqb _ 6 (others .0 .0 .0 .1),
+      ne-eqb _ 7 (others .0 .0 .1),
+      ne-eqb _ 8 (others .0 .1),
+      ne-eqb _ 9 (others .1),
     )
 
 pub divergence-of-spec : {M : Type 1} → statement M
 divergence-of-spec =
     let shown = tie.spec
-    returns returns-2 returns-3 returns-4 returns-5 returns-6 returns-7 returns-8 in
+    returns returns-2 returns-3 returns-4 returns-5 returns-6 returns-7 returns-8 returns-9 in
     tie.close shown
