@@ -10,7 +10,7 @@ hiskurdo-divergence-from-spec =
     (λ c κs. search needs) (λ c κs. search needs) (λ c κs. search needs) (λ c κs. search needs)
     (λ c. rw (
       c .number .ensures,
-      c .before .divergence-from .ensures,
+      c .before .divergence-from .ensures .0,
       c .before .before .pending-from .ensures,
       c .before .before .before .request-of .ensures,
     )) in

@@ -19,7 +19,7 @@ returns-3 c = by-arm (machineNumbersFor (c .before .before .args .cursor)) (c .e
 returns-4 : tie.Need-returns-4
 returns-4 c =
     let told = c .before .before in
-    by-arm (machineNumbersFor (told .before .before .args .cursor)) (told .phase .given .1) (rw (c .number .ensures))
+    by-arm (machineNumbersFor (told .before .before .args .cursor)) (told .phase .given .1) (rw (c .number .ensures .0))
 
 pub phase-numbers-spec : {M : Type 1} → statement M
 phase-numbers-spec =
