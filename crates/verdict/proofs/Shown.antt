@@ -1,4 +1,4 @@
--- 01's own lines hold: one computed test, from bytes to text.
+-- 01's own lines, and 02's, hold: one computed test, from bytes to text.
 use Prim.Native.Nat.{ℕ}
 use mathlib.Core.Path.{_≡_, refl}
 use mathlib.Core.List.{List, map}

@@ -1,4 +1,5 @@
--- 01's own lines, from the files' bytes to the printed text: two of the starred examples, and the worked pair.
+-- 01's own lines, from the files' bytes to the printed text: two of the starred examples, and the worked pair. Then the worked pair
+-- with another recorded input: 02, "Length or CRC".
 use Prim.Native.Nat.{ℕ}
 use Prim.Native.String.{String}
 use mathlib.Core.List.{List, [], _∷_, _++_}
@@ -24,17 +25,27 @@ abbrev emptyPlan : ℕ → List ℕ
 emptyPlan capability = (2 ∷ 0 ∷ 0 ∷ 0 ∷ capability ∷ []) ++ zeros 11
 
 -- "Journal .. Plan .. Output: `ok open 0 2 3`"
+abbrev workedFront : List ℕ
+workedFront = (1 ∷ 0 ∷ 2 ∷ 0 ∷ 7 ∷ zeros 11) ++ (1 ∷ 0 ∷ 3 ∷ zeros 5) ++ (1 ∷ zeros 15)
+
 abbrev workedJournal : List ℕ
-workedJournal = (1 ∷ 0 ∷ 2 ∷ 0 ∷ 7 ∷ zeros 11) ++ (1 ∷ 0 ∷ 3 ∷ zeros 5) ++ (1 ∷ zeros 15) ++ (2 ∷ 0 ∷ 5 ∷ zeros 21)
+workedJournal = workedFront ++ (2 ∷ 0 ∷ 5 ∷ zeros 21)
+
+-- the same journal, with this recorded length and CRC, both below 256
+abbrev recordedWith : ℕ → ℕ → List ℕ
+recordedWith len crc = workedFront ++ (2 ∷ 0 ∷ 5 ∷ zeros 5) ++ (len ∷ zeros 7) ++ (crc ∷ zeros 7)
 
 abbrev workedPlan : List ℕ
 workedPlan = (2 ∷ 0 ∷ 1 ∷ zeros 13) ++ (2 ∷ 0 ∷ 5 ∷ zeros 21)
 
--- what is printed, and what 01 says
+-- what is printed, and what 01 or 02 says
 abbrev pub shownLines : List (List ℕ × List ℕ)
 shownLines =
     (lineOf (verdictRule none (emptyPlan 0)), ascii "ok unstarted 0 0 0\n") ∷
     (lineOf (verdictRule none workedPlan), ascii "ok unstarted 0 0 0\n") ∷
     (lineOf (verdictRule started (emptyPlan 0)), ascii "ok done 0 1 1\n") ∷
     (lineOf (verdictRule started (emptyPlan 1)), ascii "ok done 0 1 1\n") ∷
-    (lineOf (verdictRule workedJournal workedPlan), ascii "ok open 0 2 3\n") ∷ []
+    (lineOf (verdictRule workedJournal workedPlan), ascii "ok open 0 2 3\n") ∷
+    (lineOf (verdictRule (recordedWith 1 0) workedPlan), ascii "no 22 1 8 2\n") ∷
+    (lineOf (verdictRule (recordedWith 0 1) workedPlan), ascii "no 22 1 9 2\n") ∷
+    (lineOf (verdictRule (recordedWith 1 1) workedPlan), ascii "no 22 1 8 2\n") ∷ []
