@@ -53,7 +53,7 @@ pub struct PendingNumbers {
     pub input_len: u16,
 }
 
-// A machine: `phase` is its place among the phases; `divergence` is 0 unless it has diverged, and then 1 to 7.
+// A machine: `phase` is its place among the phases; `divergence` is 0 unless it has diverged, and then 1, 2 or 4 to 9.
 #[repr(C)]
 pub struct MachineNumbers {
     pub cursor: CursorNumbers,
