@@ -122,29 +122,33 @@ const REQUEST: RequestNumbers = RequestNumbers {
     input_crc: 99,
 };
 
-/// After a marker: effects that match and that differ.
-fn effects(calls: &mut Vec<Call>) {
+/// Schedules that `REQUEST` matches under number 1, and that differ in number, activity, length
+/// and CRC, alone and by twos.
+fn schedules() -> [RecordNumbers; 10] {
     let same = plain(2, 1);
     let kind = RecordNumbers { a: 5, ..same };
-    let records = [
+    let length = RecordNumbers { d: 4, ..same };
+    [
         same,
         plain(2, 0),
         plain(2, 2),
         kind,
-        RecordNumbers { d: 4, ..same },
+        length,
         RecordNumbers { m: 98, ..same },
-        RecordNumbers {
-            d: 4,
-            m: 98,
-            ..same
-        },
+        RecordNumbers { m: 98, ..length },
         RecordNumbers { s: 2, ..kind },
         RecordNumbers { d: 6, ..kind },
         RecordNumbers { m: 98, ..kind },
+    ]
+}
+
+/// After a marker: effects that match and that differ.
+fn effects(calls: &mut Vec<Call>) {
+    let others = [
         RecordNumbers {
             d: 0x1_0005,
             m: 0x1_0000_0063,
-            ..same
+            ..plain(2, 1)
         },
         RecordNumbers {
             s: 0,
@@ -157,10 +161,14 @@ fn effects(calls: &mut Vec<Call>) {
         plain(7, 1),
         plain(8, 1),
     ];
-    let each = records.map(|record| Call::Intent {
-        request: REQUEST,
-        next: NextNumbers::of(record),
-    });
+    let each: Vec<Call> = schedules()
+        .into_iter()
+        .chain(others)
+        .map(|record| Call::Intent {
+            request: REQUEST,
+            next: NextNumbers::of(record),
+        })
+        .collect();
     each_after(calls, after_marker(), &each);
 }
 

@@ -1,4 +1,5 @@
--- The boundary to C and Rust: what the numbers name that a caller gives. A number that no list here has names nothing.
+-- The boundary to C and Rust: what the numbers name that a caller gives. A number that no list has names nothing. The list of the
+-- divergences is the machine's own, the others stand here.
 use Prim.Native.Nat.{ℕ}
 use mathlib.Core.Bool.{cond}
 use lib.Dec.{eqb}
