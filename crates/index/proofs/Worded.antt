@@ -21,7 +21,7 @@ use Rattle.endings.specs.declared.Ending.the-variants as Ending
 use Rattle.histories.specs.Checklist.{refusalNumbers, divergencesOf}
 use Rattle.histories.specs.Promise.{Promise}
 use Rattle.histories.proofs.Whole.{promise-listed}
-use Rattle.histories.proofs.Numbers.{all, one-of}
+use Rattle.records.proofs.Numbers.{all, one-of}
 use Rattle.lines.specs.Words.{Row, table, isOf, endingDetail, detailOf}
 use Rattle.resume.specs.EndResult.{KeptBy}
 use Rattle.resume.specs.Verdict.{verdictBy, verdictRule}
