@@ -1,4 +1,5 @@
 -- The numbers that an export tells of a state name that state: no answer's state is ever refused.
+use Prim.Native.Nat.{ℕ}
 use mathlib.Core.Path.{_≡_, refl, ap, sym, _∙_}
 use Rattle.errors.specs.declared.KernelError.{KernelError}
 use Rattle.errors.specs.declared.KernelError.the-variants as KernelError
@@ -32,7 +33,7 @@ use Rattle.core_exports.specs.declared.given.PhaseOption.{PhaseOption}
 use Rattle.core_exports.specs.declared.given.PhaseOption.the-variants as PhaseOption
 use Rattle.core_exports.specs.declared.given.MachineOption.{MachineOption}
 use Rattle.core_exports.specs.declared.given.MachineOption.the-variants as MachineOption
-use Rattle.core_exports.specs.Given.{idsNamed, errorNamed, haltedBy, stateNamed, cursorWith, cursorNamed}
+use Rattle.core_exports.specs.Given.{idsNamed, errorNamed, haltedBy, stateNamed, cursorBy, cursorNamed}
 use Rattle.core_exports.specs.Given.{divergedBy, phaseNamed, machineWith, machineNamed}
 use Rattle.core_exports.specs.Numbers.{idsNumbersFor, idsNumbers, cursorNumbersFor, cursorNumbers}
 use Rattle.core_exports.specs.MachineNumbers.{machineNumbersFor, machineNumbers}
@@ -53,29 +54,32 @@ error-back KernelError.MalformedHistory = refl
 error-back KernelError.NoPersistentClock = refl
 error-back KernelError.ClockWentBackwards = refl
 
-state-back : (ids : IdsNumbers) (state : State) → stateNamed (cursorNumbersFor ids state) ≡ StateOption.Some state
-state-back ids State.BeforeRun = refl
-state-back ids State.Replaying = refl
-state-back ids (State.AwaitingOutcome scheduled) = refl
-state-back ids (State.AwaitingTimer armed) = refl
-state-back ids State.RunCompleted = refl
-state-back ids State.RunFailed = refl
-state-back ids (State.Halted x) = ap haltedBy (error-back x)
+state-back : (ids : IdsNumbers) (failed : ℕ) (state : State) → stateNamed (cursorNumbersFor ids failed state) ≡ StateOption.Some state
+state-back ids failed State.BeforeRun = refl
+state-back ids failed State.Replaying = refl
+state-back ids failed (State.AwaitingOutcome scheduled) = refl
+state-back ids failed (State.AwaitingTimer armed) = refl
+state-back ids failed State.RunCompleted = refl
+state-back ids failed State.RunFailed = refl
+state-back ids failed (State.Halted x) = ap haltedBy (error-back x)
 
--- the allocator is told beside every position
-beside : (ids : IdsNumbers) (state : State) → cursorNumbersFor ids state .ids ≡ ids
-beside ids State.BeforeRun = refl
-beside ids State.Replaying = refl
-beside ids (State.AwaitingOutcome scheduled) = refl
-beside ids (State.AwaitingTimer armed) = refl
-beside ids State.RunCompleted = refl
-beside ids State.RunFailed = refl
-beside ids (State.Halted x) = refl
+-- the allocator and the count are told beside every position
+beside : (ids : IdsNumbers) (failed : ℕ) (state : State) →
+    (cursorNumbersFor ids failed state .ids ≡ ids) × (cursorNumbersFor ids failed state .failed ≡ failed)
+beside ids failed State.BeforeRun = (refl, refl)
+beside ids failed State.Replaying = (refl, refl)
+beside ids failed (State.AwaitingOutcome scheduled) = (refl, refl)
+beside ids failed (State.AwaitingTimer armed) = (refl, refl)
+beside ids failed State.RunCompleted = (refl, refl)
+beside ids failed State.RunFailed = (refl, refl)
+beside ids failed (State.Halted x) = (refl, refl)
 
 pub cursor-back : (c : ReplayCursor) → cursorNamed (cursorNumbers c) ≡ CursorOption.Some c
 cursor-back c =
+    let told = beside (idsNumbers (c .ids)) (c .failed) (c .state) in
+    ap (λ (n : ℕ). cursorBy n (idsNamed (cursorNumbers c .ids)) (stateNamed (cursorNumbers c))) (told .1) ∙
     sym
-    (by-arms cursorWith (ap idsNamed (beside (idsNumbers (c .ids)) (c .state)) ∙ ids-back (c .ids)) (state-back (idsNumbers (c .ids)) (c .state)) refl)
+    (by-arms (cursorBy (c .failed)) (ap idsNamed (told .0) ∙ ids-back (c .ids)) (state-back (idsNumbers (c .ids)) (c .failed) (c .state)) refl)
 
 divergence-back : (d : Divergence) → divergenceNamed (divergenceNumber d) ≡ DivergenceOption.Some d
 divergence-back Divergence.Sequence = refl

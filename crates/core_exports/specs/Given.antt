@@ -14,6 +14,7 @@ use Rattle.records.specs.declared.RecordRefOption.{RecordRefOption}
 use Rattle.records.specs.declared.RecordRefOption.the-variants as RecordRefOption
 use Rattle.records.specs.Fields.{recordBy}
 use Rattle.cursor.specs.declared.State.the-variants as State
+use Rattle.cursor.specs.Readers.{cursorAt, withFailed}
 use Rattle.machine.specs.declared.DivergenceOption.{DivergenceOption}
 use Rattle.machine.specs.declared.DivergenceOption.the-variants as DivergenceOption
 use Rattle.machine.specs.declared.Next.the-variants as Next
@@ -110,13 +111,14 @@ stateAt position n =
 abbrev pub stateNamed : CursorNumbers → StateOption
 stateNamed n = stateAt (n .position) n
 
-abbrev pub cursorWith : IdsOption → StateOption → CursorOption
-cursorWith (IdsOption.Some ids) (StateOption.Some state) = CursorOption.Some (record { ids = ids; state = state })
-cursorWith (IdsOption.Some ids) StateOption.None = CursorOption.None
-cursorWith IdsOption.None state = CursorOption.None
+-- any count may be given
+abbrev pub cursorBy : ℕ → IdsOption → StateOption → CursorOption
+cursorBy failed (IdsOption.Some ids) (StateOption.Some state) = CursorOption.Some (withFailed (cursorAt ids state) failed)
+cursorBy failed (IdsOption.Some ids) StateOption.None = CursorOption.None
+cursorBy failed IdsOption.None state = CursorOption.None
 
 abbrev pub cursorNamed : CursorNumbers → CursorOption
-cursorNamed n = cursorWith (idsNamed (n .ids)) (stateNamed n)
+cursorNamed n = cursorBy (n .failed) (idsNamed (n .ids)) (stateNamed n)
 
 abbrev pub divergedBy : DivergenceOption → PhaseOption
 divergedBy (DivergenceOption.Some d) = PhaseOption.Some (Phase.Diverged d)

@@ -91,10 +91,11 @@ resumedBy given (OfferOption.Some last) =
 resumedBy given OfferOption.None = idsKept given
 
 -- a cursor that holds nothing open; its error is 0 unless it has halted
-abbrev pub bare : IdsNumbers → ℕ → ℕ → CursorNumbers
-bare ids position error =
+abbrev pub bare : IdsNumbers → ℕ → ℕ → ℕ → CursorNumbers
+bare ids failed position error =
     record {
       ids = ids;
+      failed = failed;
       deadline = 0;
       «armed_at» = 0;
       seq = 0;
@@ -107,12 +108,13 @@ bare ids position error =
     }
 
 -- a cursor with a boundary open: what its schedule recorded, 0 for what the other kind of boundary records
-abbrev pub cursorNumbersFor : IdsNumbers → State → CursorNumbers
-cursorNumbersFor ids State.BeforeRun = bare ids 0 0
-cursorNumbersFor ids State.Replaying = bare ids 1 0
-cursorNumbersFor ids (State.AwaitingOutcome scheduled) =
+abbrev pub cursorNumbersFor : IdsNumbers → ℕ → State → CursorNumbers
+cursorNumbersFor ids failed State.BeforeRun = bare ids failed 0 0
+cursorNumbersFor ids failed State.Replaying = bare ids failed 1 0
+cursorNumbersFor ids failed (State.AwaitingOutcome scheduled) =
     record {
       ids = ids;
+      failed = failed;
       deadline = 0;
       «armed_at» = 0;
       seq = scheduled .seq .0;
@@ -123,9 +125,10 @@ cursorNumbersFor ids (State.AwaitingOutcome scheduled) =
       «clock_kind» = 0;
       «error» = 0;
     }
-cursorNumbersFor ids (State.AwaitingTimer armed) =
+cursorNumbersFor ids failed (State.AwaitingTimer armed) =
     record {
       ids = ids;
+      failed = failed;
       deadline = armed .deadline;
       «armed_at» = armed .«armed_at»;
       seq = armed .seq .0;
@@ -136,12 +139,12 @@ cursorNumbersFor ids (State.AwaitingTimer armed) =
       «clock_kind» = armed .«clock_kind» .0;
       «error» = 0;
     }
-cursorNumbersFor ids State.RunCompleted = bare ids 4 0
-cursorNumbersFor ids State.RunFailed = bare ids 5 0
-cursorNumbersFor ids (State.Halted x) = bare ids 6 (errorNumber x)
+cursorNumbersFor ids failed State.RunCompleted = bare ids failed 4 0
+cursorNumbersFor ids failed State.RunFailed = bare ids failed 5 0
+cursorNumbersFor ids failed (State.Halted x) = bare ids failed 6 (errorNumber x)
 
 abbrev pub cursorNumbers : ReplayCursor → CursorNumbers
-cursorNumbers c = cursorNumbersFor (idsNumbers (c .ids)) (c .state)
+cursorNumbers c = cursorNumbersFor (idsNumbers (c .ids)) (c .failed) (c .state)
 
 abbrev pub advancedNumbers : Advanced → AdvancedNumbers
 advancedNumbers a = record { cursor = cursorNumbers (a .cursor); answer = stepResultTold (a .answer) }

@@ -171,7 +171,9 @@ pub(crate) fn cursor_of(n: CursorNumbers) -> CursorOption
 {
     match ids_of(n.ids) {
         IdsOption::Some(ids) => match state_of(n) {
-            StateOption::Some(state) => CursorOption::Some(ReplayCursor { ids, state }),
+            StateOption::Some(state) => {
+                CursorOption::Some(ReplayCursor::at(ids, state).with_failed(n.failed))
+            }
             StateOption::None => CursorOption::None,
         },
         IdsOption::None => CursorOption::None,

@@ -14,7 +14,8 @@ ghost use Rattle.clocks.specs.Timers.{admission, armed, evaluation};
 ghost use Rattle.clocks.specs.Told.{timerSpecOptionTold, admitsResultTold, timerResultTold, deadlineResultTold};
 ghost use Rattle.records.specs.Records.{kindNumber};
 ghost use Rattle.cursor.specs.declared.State.the-variants as State;
-ghost use Rattle.cursor.specs.Readers.{freshCursor, runOf, positionOf, terminalAt, pendingOf, pendingTimerOf, nextSeqOf, nextEffectIdOf};
+ghost use Rattle.cursor.specs.Readers.{freshCursor, runOf, positionOf, terminalAt, pendingOf, pendingTimerOf};
+ghost use Rattle.cursor.specs.Readers.{failedOf, nextSeqOf, nextEffectIdOf};
 ghost use Rattle.answer_numbers.specs.CursorTold.{positionTold, pendingEffectOptionTold, pendingTimerOptionTold};
 ghost use Rattle.core_exports.specs.Given.{offerNamed, idsNamed, specNamed, recordNamed, cursorNamed};
 ghost use Rattle.core_exports.specs.Numbers.{unnamed, ofIds, ofSpec, ofBoard, ofRecord, ofCursor, idsKept, cursorKept};
@@ -81,10 +82,11 @@ pub struct RecordNumbers {
     pub start: u64,
 }
 
-// A cursor: `position` is its place among the positions; a field that the position does not hold is 0.
+// A cursor: `position` is its place among the positions; a field that the position does not hold is 0. Any `failed` is a count.
 #[repr(C)]
 pub struct CursorNumbers {
     pub ids: IdsNumbers,
+    pub failed: u64,
     pub deadline: u64,
     pub armed_at: u64,
     pub seq: u32,
@@ -323,6 +325,16 @@ pub extern "C" fn hiskurdo_cursor_pending_timer(cursor: CursorNumbers) -> Told
 }
 
 #[no_mangle]
+pub extern "C" fn hiskurdo_cursor_failed(cursor: CursorNumbers) -> Told
+    ensures { λ r. ⌜ r ≡ ofCursor (λ c. told1 0 (failedOf c)) (cursorNamed cursor) ⌝ }
+{
+    match given::cursor_of(cursor) {
+        CursorOption::Some(c) => value(c.failed()),
+        CursorOption::None => names_nothing(),
+    }
+}
+
+#[no_mangle]
 pub extern "C" fn hiskurdo_cursor_next_seq(cursor: CursorNumbers) -> Told
     ensures { λ r. ⌜ r ≡ ofCursor (λ c. seqOptionTold (nextSeqOf c)) (cursorNamed cursor) ⌝ }
 {
@@ -427,11 +439,12 @@ fn allocated_numbers(a: Allocated) -> AllocatedNumbers
     }
 }
 
-fn bare_numbers(ids: IdsNumbers, position: u8, error: u8) -> CursorNumbers
-    ensures { λ r. ⌜ r ≡ bare ids position «error» ⌝ }
+fn bare_numbers(ids: IdsNumbers, failed: u64, position: u8, error: u8) -> CursorNumbers
+    ensures { λ r. ⌜ r ≡ bare ids failed position «error» ⌝ }
 {
     CursorNumbers {
         ids,
+        failed,
         deadline: 0,
         armed_at: 0,
         seq: 0,
@@ -444,11 +457,12 @@ fn bare_numbers(ids: IdsNumbers, position: u8, error: u8) -> CursorNumbers
     }
 }
 
-fn scheduled_numbers(ids: IdsNumbers, scheduled: Scheduled) -> CursorNumbers
-    ensures { λ r. ⌜ r ≡ cursorNumbersFor ids (State.AwaitingOutcome scheduled) ⌝ }
+fn scheduled_numbers(ids: IdsNumbers, failed: u64, scheduled: Scheduled) -> CursorNumbers
+    ensures { λ r. ⌜ r ≡ cursorNumbersFor ids failed (State.AwaitingOutcome scheduled) ⌝ }
 {
     CursorNumbers {
         ids,
+        failed,
         deadline: 0,
         armed_at: 0,
         seq: scheduled.seq.0,
@@ -461,11 +475,12 @@ fn scheduled_numbers(ids: IdsNumbers, scheduled: Scheduled) -> CursorNumbers
     }
 }
 
-fn armed_numbers(ids: IdsNumbers, armed: OpenTimer) -> CursorNumbers
-    ensures { λ r. ⌜ r ≡ cursorNumbersFor ids (State.AwaitingTimer armed) ⌝ }
+fn armed_numbers(ids: IdsNumbers, failed: u64, armed: OpenTimer) -> CursorNumbers
+    ensures { λ r. ⌜ r ≡ cursorNumbersFor ids failed (State.AwaitingTimer armed) ⌝ }
 {
     CursorNumbers {
         ids,
+        failed,
         deadline: armed.deadline,
         armed_at: armed.armed_at,
         seq: armed.seq.0,
@@ -482,20 +497,20 @@ fn cursor_numbers(cursor: ReplayCursor) -> CursorNumbers
     ensures { λ r. ⌜ r ≡ cursorNumbers cursor ⌝ }
 {
     let state = cursor.state;
-    state_numbers(ids_numbers(cursor.ids), state)
+    state_numbers(ids_numbers(cursor.ids), cursor.failed, state)
 }
 
-fn state_numbers(ids: IdsNumbers, state: State) -> CursorNumbers
-    ensures { λ r. ⌜ r ≡ cursorNumbersFor ids state ⌝ }
+fn state_numbers(ids: IdsNumbers, failed: u64, state: State) -> CursorNumbers
+    ensures { λ r. ⌜ r ≡ cursorNumbersFor ids failed state ⌝ }
 {
     match state {
-        State::BeforeRun => bare_numbers(ids, 0, 0),
-        State::Replaying => bare_numbers(ids, 1, 0),
-        State::AwaitingOutcome(scheduled) => scheduled_numbers(ids, scheduled),
-        State::AwaitingTimer(armed) => armed_numbers(ids, armed),
-        State::RunCompleted => bare_numbers(ids, 4, 0),
-        State::RunFailed => bare_numbers(ids, 5, 0),
-        State::Halted(error) => bare_numbers(ids, 6, error.number()),
+        State::BeforeRun => bare_numbers(ids, failed, 0, 0),
+        State::Replaying => bare_numbers(ids, failed, 1, 0),
+        State::AwaitingOutcome(scheduled) => scheduled_numbers(ids, failed, scheduled),
+        State::AwaitingTimer(armed) => armed_numbers(ids, failed, armed),
+        State::RunCompleted => bare_numbers(ids, failed, 4, 0),
+        State::RunFailed => bare_numbers(ids, failed, 5, 0),
+        State::Halted(error) => bare_numbers(ids, failed, 6, error.number()),
     }
 }
 

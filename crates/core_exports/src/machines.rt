@@ -1,6 +1,6 @@
 // The machine for C and Rust.
 ghost use mathlib.Core.Path.{_≡_};
-ghost use Rattle.cursor.specs.Readers.{runOf, positionOf, pendingOf, pendingTimerOf};
+ghost use Rattle.cursor.specs.Readers.{runOf, positionOf, pendingOf, pendingTimerOf, failedOf};
 ghost use Rattle.answer_numbers.specs.CursorTold.{positionTold, pendingEffectOptionTold, pendingTimerOptionTold};
 ghost use Rattle.machine.specs.Phases as Phases;
 ghost use Rattle.machine.specs.Divergences.{divergenceOptionNumber, effectDivergence};
@@ -132,6 +132,16 @@ pub extern "C" fn hiskurdo_machine_pending_timer(machine: MachineNumbers) -> Tol
 {
     match given::machine_of(machine) {
         MachineOption::Some(m) => answer_numbers::pending_timer_told(m.pending_timer()),
+        MachineOption::None => crate::names_nothing(),
+    }
+}
+
+#[no_mangle]
+pub extern "C" fn hiskurdo_machine_failed(machine: MachineNumbers) -> Told
+    ensures { λ r. ⌜ r ≡ ofMachine (λ m. told1 0 (failedOf (m .cursor))) (machineNamed machine) ⌝ }
+{
+    match given::machine_of(machine) {
+        MachineOption::Some(m) => crate::value(m.failed()),
         MachineOption::None => crate::names_nothing(),
     }
 }

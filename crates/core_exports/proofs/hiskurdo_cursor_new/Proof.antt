@@ -8,5 +8,5 @@ pub hiskurdo-cursor-new-spec : {M : Type 1} → statement M
 hiskurdo-cursor-new-spec =
     let shown = tie.spec
     (λ c κs. search needs) (λ c κs. search needs)
-    (λ c. rw (c .cursor-numbers .ensures, c .before .new .ensures)) in
+    (λ c. rw (c .cursor-numbers .ensures, c .before .new .ensures .0)) in
     tie.close shown
