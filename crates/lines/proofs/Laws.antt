@@ -1,20 +1,21 @@
 -- Published laws: what a line's first bytes are, and that neither the verdict's line nor its words are ever empty.
 use Prim.Native.Nat.{ℕ, _-_, _≤_}
-use mathlib.Core.Path.{_≡_, refl, ap, _∙_}
-use mathlib.Core.Bool.{Bool, true, false, cond, not, _&&_}
-use mathlib.Core.List.{List, [], _∷_, _++_}
+use mathlib.Core.Path.{_≡_, refl, sym, ap, _∙_}
+use mathlib.Core.Bool.{Bool, true, false, cond, not, _&&_, _||_}
+use mathlib.Core.List.{List, [], _∷_, _++_, append-nil}
 use native.Mathlib.Omega.{arith}
 use borrow.Author.Tests.{not-true}
 use lib.Dec.{eqb}
-use lib.ListN.{length, replicate, take}
+use lib.ListN.{length, replicate, take, length-append}
 use lib.Seq.{take-append-le}
 use Rattle.files.proofs.Checks.{both}
 use Rattle.histories.specs.declared.Answer.{Answer}
 use Rattle.histories.specs.declared.Answer.the-variants as Answer
 use Rattle.lines.specs.declared.Line.{Line}
 use Rattle.lines.specs.Line.{lineOf, holding, Holds}
-use Rattle.endings.specs.Endings.{ascii}
-use Rattle.lines.specs.Words.{Row, table, otherWords, isOf, wordsIn, filled, endingDetail, detailOf, wordsOf}
+use Rattle.endings.specs.declared.Ending.{Ending}
+use Rattle.endings.specs.Endings.{ascii, endingNumber}
+use Rattle.lines.specs.Words.{Row, table, otherWords, isOf, wordsIn, filled, endingDetail, tellsFailed, failedWords, endingWords, detailOf, wordsOf}
 
 pub held-len : (line : Line) (text : List ℕ) → Holds line text → line .len ≡ length text
 held-len line text h = ap (λ (l : Line). l .len) (h .whole)
@@ -26,7 +27,7 @@ held-front line text n h le =
 
 pub line-some : (answer : Answer) → 1 ≤ length (lineOf answer)
 unfolding lineOf
-line-some (Answer.Ok ending stop records calls) = omega arith
+line-some (Answer.Ok ending stop records calls failed) = omega arith
 line-some (Answer.No number place divergence calls) = omega arith
 
 -- words that begin with a byte of their own
@@ -58,5 +59,24 @@ table-some n number detail = filled-some n (ascii (wordsIn table number detail))
 
 pub words-some : (answer : Answer) (kind : ℕ) → 1 ≤ length (wordsOf answer kind)
 unfolding wordsOf
-words-some (Answer.Ok ending stop records calls) kind = table-some stop 0 (endingDetail ending kind)
+words-some (Answer.Ok ending stop records calls failed) kind =
+    let words = filled stop (ascii (wordsIn table 0 (endingDetail ending kind))) in
+    let told = cond (tellsFailed ending failed) (failedWords failed) [] in
+    omega (arith, table-some stop 0 (endingDetail ending kind), length-append words told)
 words-some (Answer.No number place divergence calls) kind = table-some place number (detailOf number place divergence kind)
+
+-- whether the failed steps are told, by the ending's number
+pub tells-by : (ending : Ending) (failed n : ℕ) (b : Bool) → n ≡ endingNumber ending → (eqb n 2 || not (eqb failed 0)) ≡ b →
+    tellsFailed ending failed ≡ b
+tells-by ending failed n b e h = sym (ap (λ (k : ℕ). eqb k 2 || not (eqb failed 0)) e) ∙ h
+
+-- the words of an ending, with the failed steps or without
+pub told-failed : (ending : Ending) (stop kind failed : ℕ) {detail : ℕ} {line : Line} → tellsFailed ending failed ≡ true →
+    detail ≡ endingDetail ending kind → Holds line (filled stop (ascii (wordsIn table 0 detail)) ++ failedWords failed) →
+    Holds line (endingWords ending stop kind failed)
+told-failed ending stop kind failed b e h = rw (b, sym e) h
+
+pub untold-failed : (ending : Ending) (stop kind failed : ℕ) {detail : ℕ} {line : Line} → tellsFailed ending failed ≡ false →
+    detail ≡ endingDetail ending kind → Holds line (filled stop (ascii (wordsIn table 0 detail))) →
+    Holds line (endingWords ending stop kind failed)
+untold-failed ending stop kind failed b e h = rw (b, sym e, append-nil) h

@@ -48,8 +48,9 @@ decimal-first n p = first-below (suc n) n p (omega arith)
 pub decimal-0 : decimal 0 ≡ 48 ∷ []
 decimal-0 = decimal-last 0 (omega arith)
 
--- 01, "Output: `ok open 0 2 3`"
-pub output : lineOf (Answer.Ok Ending.Open 0 2 3) ≡ 111 ∷ 107 ∷ 32 ∷ 111 ∷ 112 ∷ 101 ∷ 110 ∷ 32 ∷ 48 ∷ 32 ∷ 50 ∷ 32 ∷ 51 ∷ 10 ∷ []
+-- 02: "01's printed example becomes `ok open 0 2 3 0`"
+pub output : lineOf (Answer.Ok Ending.Open 0 2 3 0) ≡
+    111 ∷ 107 ∷ 32 ∷ 111 ∷ 112 ∷ 101 ∷ 110 ∷ 32 ∷ 48 ∷ 32 ∷ 50 ∷ 32 ∷ 51 ∷ 32 ∷ 48 ∷ 10 ∷ []
 unfolding lineOf decimal
 output = refl
 

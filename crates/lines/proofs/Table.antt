@@ -1,7 +1,7 @@
 -- Laws of the table of words in bytes: what stands at a row's place, how the next row is reached, and that every text has room.
 use Prim.Native.Nat.{ℕ, suc, _+_, _-_, _/_, _%_, _≤_, _<_}
 use mathlib.Core.Path.{_≡_, refl, sym, ap, _∙_}
-use mathlib.Core.Bool.{Bool, true, false, cond, not, _&&_}
+use mathlib.Core.Bool.{Bool, true, false, cond, not, _&&_, _||_}
 use mathlib.Core.List.{List, [], _∷_, _++_}
 use mathlib.Core.Logic.{by-cases}
 use native.Mathlib.Decide.{ℕ-discrete}
@@ -101,6 +101,31 @@ words-room (r ∷ rows) number detail h =
 -- the words of the table have room, whatever number stands in them
 pub words-fit : (n number detail : ℕ) → n < 18446744073709551616 → length (filled n (ascii (wordsIn table number detail))) ≤ 128
 words-fit n number detail h = fits n (ascii (wordsIn table number detail)) h (words-room table number detail table-plain)
+
+-- the words of an ending leave room for the failed steps
+abbrev brief : Row → Bool
+brief r = not (eqb (r .number) 0) || leb (room (ascii (r .words))) 92
+
+abbrev briefs : List Row → Bool
+briefs [] = true
+briefs (r ∷ rows) = brief r && briefs rows
+
+ending-room : (rows : List Row) (detail : ℕ) → briefs rows ≡ true → leb (room (ascii (wordsIn rows 0 detail))) 92 ≡ true
+ending-room [] detail h = refl
+ending-room (r ∷ rows) detail h =
+    let p = both (brief r) (briefs rows) h in
+    by-row (eqb (r .number) 0) (eqb (r .detail) detail) (p .0) (ending-room rows detail (p .1))
+  where
+    by-row : (b d : Bool) → (not b || leb (room (ascii (r .words))) 92) ≡ true → leb (room (ascii (wordsIn rows 0 detail))) 92 ≡ true →
+        leb (room (ascii (cond (b && d) (r .words) (wordsIn rows 0 detail)))) 92 ≡ true
+    by-row true true x y = x
+    by-row true false x y = y
+    by-row false d x y = y
+
+pub ending-fits : (n detail : ℕ) → n < 18446744073709551616 → length (filled n (ascii (wordsIn table 0 detail))) ≤ 92
+ending-fits n detail h =
+    let words = ascii (wordsIn table 0 detail) in
+    omega (arith, filled-room n words h, leb-true (room words) 92 (ending-room table detail refl))
 
 pub other-fit : (n : ℕ) → n < 18446744073709551616 → length (filled n (ofLine (ascii otherWords))) ≤ 128
 other-fit n h = fits n (ofLine (ascii otherWords)) h refl

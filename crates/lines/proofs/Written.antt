@@ -54,6 +54,18 @@ held r xs e h =
     let fits : r .len ≤ length (r .bytes) = omega (arith, bytes, len) in
     record { whole = whole; fits = fits; counts = sym (length-take-le (r .len) (r .bytes) fits) }
 
+-- and the other way: a line that holds bytes has them written
+pub holds-written : (r : Line) (xs : List ℕ) → Holds r xs → length xs ≤ 128 → r ≡ written (holding []) xs
+holds-written r xs h l = h .whole ∙ sym (written-on [] xs 128 l)
+
+-- more is written on a line that holds some bytes
+pub held-more : (before r : Line) (xs ys : List ℕ) → Holds before xs → r ≡ written before ys → length xs + length ys ≤ 128 → Holds r (xs ++ ys)
+held-more before r xs ys h e l =
+    let first = holds-written before xs h (omega arith) in
+    let whole = e ∙ ap (λ (x : Line). written x ys) first ∙ sym (written-append (holding []) xs ys) in
+    let len = ap (λ (x : Line). x .len) whole ∙ written-len (holding []) (xs ++ ys) in
+    held r (xs ++ ys) whole (omega (arith, len, length-append xs ys))
+
 -- a text byte by byte: one more is written, and none is left
 pub write-on : (now next : Line) (text : List ℕ) (i : ℕ) → i < length text → next ≡ pushed now (getD text i 0) →
     written now (drop i text) ≡ written next (drop (i + 1) text)

@@ -25,10 +25,10 @@ spaced [] = 10 ∷ []
 spaced (field ∷ []) = field ++ (10 ∷ [])
 spaced (field ∷ (next ∷ fields)) = field ++ (32 ∷ spaced (next ∷ fields))
 
--- "`ok`, ending, stop, records, calls; or `no`, number, place, divergence, calls"
+-- "`ok`, ending, stop, records, calls; or `no`, number, place, divergence, calls"; 02: "an `ok` line ends with" the failed steps
 unfoldable pub lineOf : Answer → List ℕ
-lineOf (Answer.Ok ending stop records calls) =
-    spaced (ascii "ok" ∷ endingWord ending ∷ decimal stop ∷ decimal records ∷ decimal calls ∷ [])
+lineOf (Answer.Ok ending stop records calls failed) =
+    spaced (ascii "ok" ∷ endingWord ending ∷ decimal stop ∷ decimal records ∷ decimal calls ∷ decimal failed ∷ [])
 lineOf (Answer.No number place divergence calls) =
     spaced (ascii "no" ∷ decimal number ∷ decimal place ∷ decimal divergence ∷ decimal calls ∷ [])
 

@@ -27,5 +27,5 @@ refusedKind journal number place =
     cond (eqb number 24) (kindBefore journal place) (cond (eqb number 31) (kindIn journal place) 0)
 
 abbrev pub tellingKind : List ℕ → List ℕ → Answer → ℕ
-tellingKind journal plan (Answer.Ok ending stop records calls) = endingKind journal plan ending stop records
+tellingKind journal plan (Answer.Ok ending stop records calls failed) = endingKind journal plan ending stop records
 tellingKind journal plan (Answer.No number place divergence calls) = refusedKind journal number place

@@ -1,7 +1,7 @@
 -- What an answer means in plain words: one table, with a row for each ending and each refusal that files can reach.
 use Prim.Native.Nat.{ℕ}
 use Prim.Native.String.{String}
-use mathlib.Core.Bool.{Bool, cond, _&&_}
+use mathlib.Core.Bool.{Bool, cond, not, _&&_, _||_}
 use mathlib.Core.List.{List, [], _∷_, _++_}
 use lib.Dec.{eqb}
 use Rattle.records.specs.Records.{among, openerKinds}
@@ -9,7 +9,7 @@ use Rattle.histories.specs.declared.Answer.{Answer}
 use Rattle.histories.specs.declared.Answer.the-variants as Answer
 use Rattle.endings.specs.declared.Ending.{Ending}
 use Rattle.endings.specs.declared.Ending.the-variants as Ending
-use Rattle.endings.specs.Endings.{ascii, stillToRun}
+use Rattle.endings.specs.Endings.{ascii, endingNumber, stillToRun}
 use Rattle.lines.specs.Line.{decimal}
 
 -- a refusal's number (0 of an ending), the detail that tells apart those of one number, and the words; `#` stands for the step or the
@@ -26,7 +26,7 @@ abbrev pub table : List Row
 table =
     row 0 0 "Nothing to resume: the run was never started" ∷
     row 0 1 "Start step #" ∷
-    row 0 2 "Nothing left to do: every step has an outcome, completed or failed" ∷
+    row 0 2 "Nothing left to do: every step has an outcome" ∷
     row 0 3 "Deliver step # again: it was begun and has no outcome" ∷
     row 0 4 "The run completed; steps with an outcome: #" ∷
     row 0 5 "Arm the timer of step # again: it was armed and has not fired" ∷
@@ -98,15 +98,26 @@ detailOf number place divergence kind =
     cond (eqb number 24) (cond (eqb place 0) 0 (cond (among openerKinds kind) 2 1))
     (cond (eqb number 31) (cond (eqb kind 9) 1 0) divergence)
 
+-- How many steps failed is told where one did, and of a run that is done in any case.
+abbrev pub tellsFailed : Ending → ℕ → Bool
+tellsFailed ending failed = eqb (endingNumber ending) (endingNumber Ending.Done) || not (eqb failed 0)
+
+abbrev pub failedWords : ℕ → List ℕ
+failedWords failed = ascii "; failed steps: " ++ decimal failed
+
+abbrev pub endingWords : Ending → ℕ → ℕ → ℕ → List ℕ
+endingWords ending stop kind failed =
+    filled stop (ascii (wordsIn table 0 (endingDetail ending kind))) ++ cond (tellsFailed ending failed) (failedWords failed) []
+
 -- what to do at which step, or which line of the checklist failed and at which record
 unfoldable pub wordsOf : Answer → ℕ → List ℕ
-wordsOf (Answer.Ok ending stop records calls) kind = filled stop (ascii (wordsIn table 0 (endingDetail ending kind)))
+wordsOf (Answer.Ok ending stop records calls failed) kind = endingWords ending stop kind failed
 wordsOf (Answer.No number place divergence calls) kind =
     filled place (ascii (wordsIn table number (detailOf number place divergence kind)))
 
 -- whether the run may be resumed, and at which step: it may where a step is still to run
 unfoldable pub resumeOf : Answer → List ℕ
-resumeOf (Answer.Ok ending stop records calls) = filled stop (ascii (cond (stillToRun ending) "yes, step #" "no"))
+resumeOf (Answer.Ok ending stop records calls failed) = filled stop (ascii (cond (stillToRun ending) "yes, step #" "no"))
 resumeOf (Answer.No number place divergence calls) = ascii "no"
 
 -- the version, as both programs print it

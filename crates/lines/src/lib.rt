@@ -33,7 +33,7 @@ pub(crate) fn push(line: Line, byte: u8) -> Line
     Line { bytes, len: at + 1 }
 }
 
-fn write(line: Line, text: &[u8]) -> Line
+pub(crate) fn write(line: Line, text: &[u8]) -> Line
     requires { ⌜ line .len + length (now text) ≤ 128 ⌝ }
     ensures { λ r. ⌜ r ≡ written line (now (text .entry)) ⌝ }
     ensures { λ r. ⌜ r .len ≡ line .len + length (now (text .entry)) ⌝ }
@@ -100,11 +100,11 @@ pub(crate) fn empty() -> Line
     }
 }
 
-fn accepted(ending: Ending, stop: u64, records: u64, calls: u64) -> Line
-    ensures { λ r. ⌜ Holds r (lineOf (Answer.Ok ending stop records calls)) ⌝ }
+fn accepted(ending: Ending, stop: u64, records: u64, calls: u64, failed: u64) -> Line
+    ensures { λ r. ⌜ Holds r (lineOf (Answer.Ok ending stop records calls failed)) ⌝ }
 {
     let said = push(word(write(empty(), b"ok "), ending), b' ');
-    numbers(said, stop, records, calls)
+    numbers(field(said, stop, b' '), records, calls, failed)
 }
 
 fn refused(number: u64, place: u64, divergence: u64, calls: u64) -> Line
@@ -124,7 +124,8 @@ pub fn line_of(answer: Answer) -> Line
             stop,
             records,
             calls,
-        } => accepted(ending, stop, records, calls),
+            failed,
+        } => accepted(ending, stop, records, calls, failed),
         Answer::No {
             number,
             place,

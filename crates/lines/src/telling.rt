@@ -50,6 +50,7 @@ pub fn telling_kind(journal: &[u8], plan: &[u8], answer: Answer) -> u8
             stop,
             records,
             calls,
+            failed,
         } => ending_kind(journal, plan, ending, stop, records),
         Answer::No {
             number,

@@ -6,7 +6,7 @@ ghost use lib.ListN.{length, drop};
 ghost use Rattle.endings.specs.Endings.{ascii, stillToRun};
 ghost use Rattle.lines.specs.Line.{Holds};
 ghost use Rattle.lines.specs.Writing.{written};
-ghost use Rattle.lines.specs.Words.{table, wordsIn, filled, shown, endingDetail, detailOf, wordsOf, resumeOf};
+ghost use Rattle.lines.specs.Words.{table, wordsIn, filled, shown, endingDetail, endingWords, detailOf, wordsOf, resumeOf};
 ghost use Rattle.lines.specs.Rows.{coded, afterLine, ofLine, keyed, wordsAt};
 use crate::Line;
 use endings::Ending;
@@ -115,7 +115,7 @@ fn said(number: u64, detail: u64, n: u64) -> Line
         b"\
         00 0 Nothing to resume: the run was never started\n\
         00 1 Start step #\n\
-        00 2 Nothing left to do: every step has an outcome, completed or failed\n\
+        00 2 Nothing left to do: every step has an outcome\n\
         00 3 Deliver step # again: it was begun and has no outcome\n\
         00 4 The run completed; steps with an outcome: #\n\
         00 5 Arm the timer of step # again: it was armed and has not fired\n\
@@ -189,6 +189,17 @@ fn detail_of(number: u64, place: u64, divergence: u64, kind: u8) -> u64
     if kind == 9 { 1 } else { 0 }
 }
 
+// What an ending means, and how many steps failed: where one did, and of a run that is done in any case.
+fn ending_words(ending: Ending, stop: u64, kind: u8, failed: u64) -> Line
+    ensures { λ r. ⌜ Holds r (endingWords ending stop kind failed) ⌝ }
+{
+    let line = said(0, ending_detail(ending, kind), stop);
+    if (ending.number() == 2) | (failed != 0) {
+        return crate::number(crate::write(line, b"; failed steps: "), failed);
+    }
+    line
+}
+
 // What an answer means; kind is that of the entry which tells apart the words of one answer.
 pub fn words_of(answer: Answer, kind: u8) -> Line
     ensures { λ r. ⌜ Holds r (wordsOf answer kind) ⌝ }
@@ -199,7 +210,8 @@ pub fn words_of(answer: Answer, kind: u8) -> Line
             stop,
             records,
             calls,
-        } => said(0, ending_detail(ending, kind), stop),
+            failed,
+        } => ending_words(ending, stop, kind, failed),
         Answer::No {
             number,
             place,
@@ -219,6 +231,7 @@ pub fn resume_of(answer: Answer) -> Line
             stop,
             records,
             calls,
+            failed,
         } => resumed(ending, stop),
         Answer::No {
             number,
