@@ -81,22 +81,13 @@ impl RustSide {
                 answer: told_id(self.ids.allocate()),
                 ids: self.read_ids(),
             },
-            Call::NewCursor { run } => {
-                self.cursor = ReplayCursor::new(RunId(run));
-                self.failed.cursor = 0;
-                Answer::Cursor(self.read_cursor())
-            }
+            Call::NewCursor { run } => Answer::Cursor(self.new_cursor(run)),
             Call::Advance(record) => Answer::Advanced {
                 answer: self.advance(&record),
                 kind: record_of(&record).kind().0,
                 cursor: self.read_cursor(),
             },
-            Call::NewMachine { run } => {
-                self.machine = ReplayMachine::new(RunId(run));
-                self.digest = None;
-                self.failed.machine = 0;
-                Answer::Machine(self.read_machine())
-            }
+            Call::NewMachine { run } => Answer::Machine(self.new_machine(run)),
             Call::MachineAdvance(_)
             | Call::Intent { .. }
             | Call::Outcome(_)
@@ -113,6 +104,19 @@ impl RustSide {
             } => Answer::Number(rust_machine::divergence(request, recorded, run, seq).into()),
             _ => timer_answer(call),
         }
+    }
+
+    fn new_cursor(&mut self, run: u64) -> CursorRead {
+        self.cursor = ReplayCursor::new(RunId(run));
+        self.failed.cursor = 0;
+        self.read_cursor()
+    }
+
+    fn new_machine(&mut self, run: u64) -> MachineRead {
+        self.machine = ReplayMachine::new(RunId(run));
+        self.digest = None;
+        self.failed.machine = 0;
+        self.read_machine()
     }
 
     pub fn advance(&mut self, record: &RecordNumbers) -> Told {
