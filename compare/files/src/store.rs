@@ -6,6 +6,7 @@ use std::io;
 use std::path::Path;
 
 use crate::damaged_list;
+use crate::failures::Failures;
 use crate::pairs_list;
 use crate::resume::{Handover, Verdict, handover, verdict};
 
@@ -71,10 +72,11 @@ fn damaged() -> (String, String) {
 
 fn verdicts() -> (String, String) {
     let (mut pairs, mut answers) = (String::new(), String::new());
-    let mut refusals = BTreeSet::new();
+    let (mut refusals, mut failures) = (BTreeSet::new(), Failures::default());
     for (journal, plan) in pairs_list::list() {
         pairs += &pairs_list::lines(&journal, &plan);
         let verdict = verdict(&journal, &plan);
+        failures.add_journal(&journal, &verdict);
         if let Verdict::No {
             number, divergence, ..
         } = verdict
@@ -89,6 +91,7 @@ fn verdicts() -> (String, String) {
     for refusal in READING.map(|number| (number, 0)).iter().chain(&REFUSALS) {
         assert!(refusals.contains(refusal), "no {refusal:?}");
     }
+    failures.must_be_all();
     (pairs, answers)
 }
 
