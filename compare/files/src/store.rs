@@ -31,6 +31,16 @@ const REFUSALS: [(u64, u64); 10] = [
     (31, 0),
 ];
 
+/// The lines of the first pairs, as document 01 prints them and 02 (request 10) ends them.
+const PRINTED: [&str; 4] = [
+    "ok open 0 2 3 0",
+    "ok unstarted 0 0 0 0",
+    "ok unstarted 0 0 0 0",
+    "ok done 0 1 1 0",
+];
+/// Each pair has the handover of so many boundaries, from 0 on.
+const BOUNDARIES: u64 = 4;
+
 /// Writes `test_files` and `test_pairs` in the folder, each with `stdin` and `stdout`.
 pub fn write(folder: &str) -> io::Result<()> {
     let (files, answers) = damaged();
@@ -84,7 +94,7 @@ fn verdicts() -> (String, String) {
             refusals.insert((number, divergence));
         }
         answers += &format!("{verdict}\n");
-        for boundary in 0..4 {
+        for boundary in 0..BOUNDARIES {
             answers += &handover_line(boundary, &handover(&journal, &plan, boundary));
         }
     }
@@ -92,6 +102,8 @@ fn verdicts() -> (String, String) {
         assert!(refusals.contains(refusal), "no {refusal:?}");
     }
     failures.must_be_all();
+    let lines = answers.lines().step_by(1 + BOUNDARIES as usize);
+    assert!(lines.take(PRINTED.len()).eq(PRINTED), "01's lines");
     (pairs, answers)
 }
 
