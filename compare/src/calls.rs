@@ -231,6 +231,7 @@ pub struct CursorRead {
     pub pending_timer: Told,
     pub next_seq: Told,
     pub next_effect_id: Told,
+    pub failed: u64,
 }
 
 impl CursorRead {
@@ -242,6 +243,7 @@ impl CursorRead {
             told_numbers(&self.pending_timer),
             told_numbers(&self.next_seq),
             told_numbers(&self.next_effect_id),
+            vec![self.failed],
         ]
         .concat()
     }
@@ -255,6 +257,7 @@ pub struct MachineRead {
     pub pending: Told,
     pub pending_timer: Told,
     pub diverged: u8,
+    pub failed: u64,
 }
 
 impl MachineRead {
@@ -263,7 +266,7 @@ impl MachineRead {
             vec![self.run, self.position.number, self.position.a],
             told_numbers(&self.pending),
             told_numbers(&self.pending_timer),
-            vec![self.diverged.into()],
+            vec![self.diverged.into(), self.failed],
         ]
         .concat()
     }

@@ -53,11 +53,13 @@ pub struct RecordNumbers {
     pub start: u64,
 }
 
-/// A cursor. `position` counts the cases of `Position` from 0. The fields that a position does not hold are 0, and are not read.
+/// A cursor. `failed` counts the `EffectFailed` records that it accepted; any count names something. `position` counts the cases of
+/// `Position` from 0. The fields that a position does not hold are 0, and are not read.
 #[repr(C)]
 #[derive(Clone, Copy, PartialEq, Eq, Hash, Debug, Default)]
 pub struct CursorNumbers {
     pub ids: IdsNumbers,
+    pub failed: u64,
     pub deadline: u64,
     pub armed_at: u64,
     pub seq: u32,
@@ -150,6 +152,7 @@ unsafe extern "C" {
     pub safe fn hiskurdo_cursor_pending_timer(cursor: CursorNumbers) -> Told;
     pub safe fn hiskurdo_cursor_next_seq(cursor: CursorNumbers) -> Told;
     pub safe fn hiskurdo_cursor_next_effect_id(cursor: CursorNumbers) -> Told;
+    pub safe fn hiskurdo_cursor_failed(cursor: CursorNumbers) -> Told;
     pub safe fn hiskurdo_cursor_advance(cursor: CursorNumbers, record: RecordNumbers) -> AdvancedNumbers;
 
     /// The number of the divergence, 0 where there is none.
@@ -161,6 +164,7 @@ unsafe extern "C" {
     pub safe fn hiskurdo_machine_pending_timer(machine: MachineNumbers) -> Told;
     /// The value is the number of the divergence, 0 where there is none.
     pub safe fn hiskurdo_machine_diverged(machine: MachineNumbers) -> Told;
+    pub safe fn hiskurdo_machine_failed(machine: MachineNumbers) -> Told;
     pub safe fn hiskurdo_machine_advance(machine: MachineNumbers, record: RecordNumbers) -> MachineAnswered;
     /// `ended` 0: `record` is next; 1: history ends here, and `record` is not read. The same holds in the calls below.
     pub safe fn hiskurdo_machine_intent(machine: MachineNumbers, request: RequestNumbers, ended: u8, record: RecordNumbers) -> MachineAnswered;

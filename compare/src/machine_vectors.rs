@@ -214,7 +214,7 @@ fn scripts() -> Vec<Vec<Call>> {
     scripts
 }
 
-/// An effect that is recorded with no outcome: it is delivered again, then resolved.
+/// An effect that is recorded with no outcome: it is delivered again, then fails. The next one fails too.
 fn delivered_again() -> Vec<Call> {
     let end = NextNumbers::end();
     let intent = |next| Call::Intent {
@@ -232,7 +232,7 @@ fn delivered_again() -> Vec<Call> {
         intent(end),
         intent(end),
         Call::MachineAdvance(plain(2, 1)),
-        Call::MachineAdvance(plain(3, 1)),
+        Call::MachineAdvance(plain(4, 1)),
         intent(NextNumbers::of(plain(8, 0))),
         intent(end),
     ]
@@ -294,7 +294,7 @@ fn kept_divergence(first: RequestNumbers) -> Vec<Call> {
     calls
 }
 
-/// Effects and a timer with large fields, replayed to the end of the run.
+/// Effects and a timer with large fields, replayed to the end of the run; then a failed outcome, which halts.
 fn whole_run() -> Vec<Call> {
     let request = RequestNumbers {
         kind: u16::MAX,
@@ -325,6 +325,7 @@ fn whole_run() -> Vec<Call> {
     calls.push(asked(spec, 0, large(5, 2)));
     calls.push(Call::TimerOutcome(large(6, 2)));
     calls.push(asked(spec, 0, large(7, 3)));
+    calls.push(advance(4));
     calls
 }
 

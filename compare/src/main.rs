@@ -7,6 +7,7 @@ mod calls;
 mod divergence;
 mod ending;
 mod exhaustive;
+mod failed;
 #[rustfmt::skip]
 mod ffi;
 mod ids;
@@ -112,12 +113,13 @@ struct Part {
     only_deep: bool,
 }
 
-const PARTS: [Part; 11] = [
+const PARTS: [Part; 12] = [
     usual("ids and allocators", ids::run),
     usual("timers", timers::run),
     usual("divergence", divergence::run),
     usual("the calls of --vectors", vectors::run),
     usual("numbers that name nothing", refused::run),
+    usual("failed outcomes counted, states made by hand", failed::run),
     usual("cursors, every sequence", exhaustive::run),
     usual("cursors, long sequences at random", long_runs::run),
     usual("machines, every script", scripts::run),

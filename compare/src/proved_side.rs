@@ -2,8 +2,9 @@
 
 use crate::calls::{Answer, Call, CursorRead, IdsRead, MachineRead};
 use crate::ffi::*;
+use crate::rust_side::Failed;
 
-#[derive(Clone, Copy, PartialEq, Eq, Hash)]
+#[derive(Clone, Copy, PartialEq, Eq, Hash, Debug)]
 pub struct ProvedSide {
     pub ids: IdsNumbers,
     pub cursor: CursorNumbers,
@@ -117,6 +118,7 @@ impl ProvedSide {
             pending_timer: hiskurdo_cursor_pending_timer(self.cursor),
             next_seq: hiskurdo_cursor_next_seq(self.cursor),
             next_effect_id: hiskurdo_cursor_next_effect_id(self.cursor),
+            failed: value(hiskurdo_cursor_failed(self.cursor)),
         }
     }
 
@@ -134,7 +136,23 @@ impl ProvedSide {
             pending: hiskurdo_machine_pending(self.machine),
             pending_timer: hiskurdo_machine_pending_timer(self.machine),
             diverged: value(hiskurdo_machine_diverged(self.machine)) as u8,
+            failed: value(hiskurdo_machine_failed(self.machine)),
         }
+    }
+
+    /// The counts that the numbers hold.
+    pub fn failed(&self) -> Failed {
+        Failed {
+            cursor: self.cursor.failed,
+            machine: self.machine.cursor.failed,
+        }
+    }
+
+    /// The same states with other counts.
+    pub fn with_failed(mut self, failed: Failed) -> ProvedSide {
+        self.cursor.failed = failed.cursor;
+        self.machine.cursor.failed = failed.machine;
+        self
     }
 }
 

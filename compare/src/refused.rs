@@ -118,6 +118,7 @@ fn ids(random: &mut Random) -> IdsNumbers {
 fn cursor(random: &mut Random) -> CursorNumbers {
     CursorNumbers {
         ids: ids(random),
+        failed: random.any(),
         deadline: random.next(),
         armed_at: random.next(),
         seq: random.below(4) as u32,
@@ -169,7 +170,7 @@ fn names_cursor(cursor: &CursorNumbers) -> bool {
 
 /// Checks every export that takes such a number, and returns how many there were.
 fn every_export(given: &Given) -> u64 {
-    readers(given) + timers(given) + calls(given)
+    readers(given) + counts(given) + timers(given) + calls(given)
 }
 
 const REFUSED: Told = Told {
@@ -243,6 +244,30 @@ fn readers(given: &Given) -> u64 {
         + held_values(given, names_cursor, &values_of_cursor)
         + held(given, names_machine, &of_machine)
         + held_values(given, names_machine, &values_of_machine)
+}
+
+/// The readers of the count, which is read as it was given.
+fn counts(given: &Given) -> u64 {
+    let Given {
+        cursor, machine, ..
+    } = *given;
+    let of_cursor = hiskurdo_cursor_failed(cursor);
+    let of_machine = hiskurdo_machine_failed(machine);
+    for (names, answer, failed) in [
+        (names_cursor(&cursor), of_cursor, cursor.failed),
+        (given.names_machine(), of_machine, machine.cursor.failed),
+    ] {
+        let owed = Told {
+            a: failed,
+            ..Told::default()
+        };
+        held(given, names, &[answer]);
+        assert!(
+            !names || answer == owed,
+            "a count of {answer:?}\nto {given:#?}"
+        );
+    }
+    2
 }
 
 fn timers(given: &Given) -> u64 {

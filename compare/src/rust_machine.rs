@@ -9,7 +9,7 @@ use waymaker_core::{
 use crate::calls::{Call, MachineRead, NextNumbers};
 use crate::ffi::{PendingNumbers, RecordNumbers, RequestNumbers, Told};
 use crate::rust_values::{
-    capability_of, id_values, place_of, record_of, spec_of, told, told_error, told_outcome,
+    FAILED, capability_of, id_values, place_of, record_of, spec_of, told, told_error, told_outcome,
     told_pending, told_pending_timer, told_position, told_step,
 };
 
@@ -80,13 +80,14 @@ fn digest_of(request: RequestNumbers, next: Next<'_>) -> Option<Digest> {
     }
 }
 
-pub fn read(machine: &ReplayMachine, digest: Option<Digest>) -> MachineRead {
+pub fn read(machine: &ReplayMachine, digest: Option<Digest>, failed: u64) -> MachineRead {
     MachineRead {
         run: machine.run().0,
         position: told_position(machine.position()),
         pending: told_pending(machine.pending()),
         pending_timer: told_pending_timer(machine.pending_timer()),
         diverged: divergence_number(machine.diverged(), digest),
+        failed,
     }
 }
 
@@ -188,7 +189,7 @@ fn told_resolve(resolve: Resolve<'_>) -> Told {
     match resolve {
         Resolve::Replayed { id, outcome } => match outcome {
             Outcome::Completed(body) => told_outcome(3, id, body),
-            Outcome::Failed(body) => told_outcome(4, id, body),
+            Outcome::Failed(body) => told_outcome(FAILED, id, body),
         },
         Resolve::Redeliver { id } => told(1, &id_values(id)),
     }

@@ -9,7 +9,7 @@ use crate::calls::{Answer, Call, CursorRead, IdsRead, MachineRead};
 use crate::ffi::{RecordNumbers, Told};
 use crate::rust_machine::{self, Digest};
 use crate::rust_values::{
-    capability_of, record_of, spec_of, told_admits, told_deadline, told_error, told_id,
+    capability_of, failed_in, record_of, spec_of, told_admits, told_deadline, told_error, told_id,
     told_option, told_pending, told_pending_timer, told_position, told_seq, told_spec, told_step,
     told_timer,
 };
@@ -29,6 +29,13 @@ impl Plain for ReplayCursor {}
 impl Plain for ReplayMachine {}
 impl Plain for RustSide {}
 
+/// How many `EffectFailed` records a side's cursor and its machine accepted.
+#[derive(Clone, Copy, PartialEq, Eq, Debug, Default)]
+pub struct Failed {
+    pub cursor: u64,
+    pub machine: u64,
+}
+
 #[derive(PartialEq)]
 pub struct RustSide {
     pub ids: EffectIdAllocator,
@@ -36,6 +43,8 @@ pub struct RustSide {
     pub machine: ReplayMachine,
     /// What the machine's Digest stands for, if it has one.
     digest: Option<Digest>,
+    /// The driver's own counts, by the Rust's answers: the Rust has none (document 02, request 10).
+    pub failed: Failed,
 }
 
 impl RustSide {
@@ -45,6 +54,7 @@ impl RustSide {
             cursor: ReplayCursor::new(RunId(0)),
             machine: ReplayMachine::new(RunId(0)),
             digest: None,
+            failed: Failed::default(),
         }
     }
 
@@ -71,26 +81,19 @@ impl RustSide {
                 answer: told_id(self.ids.allocate()),
                 ids: self.read_ids(),
             },
-            Call::NewCursor { run } => {
-                self.cursor = ReplayCursor::new(RunId(run));
-                Answer::Cursor(self.read_cursor())
-            }
+            Call::NewCursor { run } => Answer::Cursor(self.new_cursor(run)),
             Call::Advance(record) => Answer::Advanced {
                 answer: self.advance(&record),
                 kind: record_of(&record).kind().0,
                 cursor: self.read_cursor(),
             },
-            Call::NewMachine { run } => {
-                self.machine = ReplayMachine::new(RunId(run));
-                self.digest = None;
-                Answer::Machine(self.read_machine())
-            }
+            Call::NewMachine { run } => Answer::Machine(self.new_machine(run)),
             Call::MachineAdvance(_)
             | Call::Intent { .. }
             | Call::Outcome(_)
             | Call::TimerIntent { .. }
             | Call::TimerOutcome(_) => Answer::Answered {
-                answer: rust_machine::call(&mut self.machine, &mut self.digest, call),
+                answer: self.machine_call(call),
                 machine: self.read_machine(),
             },
             Call::Divergence {
@@ -103,11 +106,26 @@ impl RustSide {
         }
     }
 
+    fn new_cursor(&mut self, run: u64) -> CursorRead {
+        self.cursor = ReplayCursor::new(RunId(run));
+        self.failed.cursor = 0;
+        self.read_cursor()
+    }
+
+    fn new_machine(&mut self, run: u64) -> MachineRead {
+        self.machine = ReplayMachine::new(RunId(run));
+        self.digest = None;
+        self.failed.machine = 0;
+        self.read_machine()
+    }
+
     pub fn advance(&mut self, record: &RecordNumbers) -> Told {
-        match self.cursor.advance(record_of(record)) {
+        let answer = match self.cursor.advance(record_of(record)) {
             Ok(step) => told_step(&step),
             Err(error) => told_error(error),
-        }
+        };
+        self.failed.cursor += failed_in(&answer);
+        answer
     }
 
     pub fn read_cursor(&self) -> CursorRead {
@@ -119,6 +137,7 @@ impl RustSide {
             pending_timer: told_pending_timer(self.cursor.pending_timer()),
             next_seq: told_seq(self.cursor.next_seq()),
             next_effect_id: told_id(self.cursor.next_effect_id()),
+            failed: self.failed.cursor,
         }
     }
 
@@ -129,12 +148,28 @@ impl RustSide {
         }
     }
 
+    fn machine_call(&mut self, call: &Call) -> Told {
+        let answer = rust_machine::call(&mut self.machine, &mut self.digest, call);
+        self.failed.machine += failed_in(&answer);
+        answer
+    }
+
     pub fn machine_advance(&mut self, record: &RecordNumbers) -> Told {
-        rust_machine::advance(&mut self.machine, record)
+        let answer = rust_machine::advance(&mut self.machine, record);
+        self.failed.machine += failed_in(&answer);
+        answer
     }
 
     pub fn read_machine(&self) -> MachineRead {
-        rust_machine::read(&self.machine, self.digest)
+        rust_machine::read(&self.machine, self.digest, self.failed.machine)
+    }
+
+    /// The same states with both counts 0.
+    pub fn uncounted(&self) -> RustSide {
+        RustSide {
+            failed: Failed::default(),
+            ..self.copy()
+        }
     }
 
     /// The number that a record for the machine must have; the last number where there is none.

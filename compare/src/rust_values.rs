@@ -221,6 +221,15 @@ pub fn told_pending_timer(timer: Option<PendingTimer>) -> Told {
     }
 }
 
+/// The number of an accepted `EffectFailed`, as a step and as a replayed outcome. No other answer to a call of a cursor or a machine
+/// has it.
+pub const FAILED: u64 = 4;
+
+/// How many `EffectFailed` records such an answer says were accepted: 1 or 0.
+pub fn failed_in(answer: &Told) -> u64 {
+    u64::from(answer.number == FAILED)
+}
+
 pub fn told_outcome(number: u64, id: EffectId, body: &[u8]) -> Told {
     let [run, seq] = id_values(id);
     let [start, length] = place_of(body);
@@ -240,7 +249,7 @@ pub fn told_step(step: &Step<'_>) -> Told {
         }
         Step::EffectScheduled(effect) => told(2, &effect_values(&effect)),
         Step::EffectCompleted { id, result } => told_outcome(3, id, result),
-        Step::EffectFailed { id, error } => told_outcome(4, id, error),
+        Step::EffectFailed { id, error } => told_outcome(FAILED, id, error),
         Step::TimerScheduled(timer) => told(5, &timer_values(&timer)),
         Step::TimerFired { id } => told(6, &id_values(id)),
         Step::RunCompleted { result } => told(7, &place_of(result)),

@@ -81,7 +81,7 @@ fn outcomes(right: u32) -> Vec<RecordNumbers> {
 }
 
 /// The request that `plain` effects match.
-const REQUEST: RequestNumbers = RequestNumbers {
+pub const REQUEST: RequestNumbers = RequestNumbers {
     kind: 4,
     input_len: 5,
     input_crc: 99,

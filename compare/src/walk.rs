@@ -5,7 +5,7 @@ use std::collections::HashMap;
 use crate::both::Both;
 use crate::calls::Call;
 use crate::proved_side::ProvedSide;
-use crate::rust_side::{Plain, RustSide};
+use crate::rust_side::{Failed, RustSide};
 
 /// The calls that are made in this state of the Rust.
 type Alphabet = fn(&RustSide) -> Vec<Call>;
@@ -25,6 +25,8 @@ pub fn walk_each(both: &mut Both, depth: u32, alphabet: Alphabet) {
 
 /// Every sequence of up to `depth` calls, but nothing twice from the same two states: the answers depend on the states alone.
 /// Where both sides are in states that came before, with as many calls still to come, these calls are compared already.
+/// The counts of failed outcomes are no part of these states, or all would be made again for each count. A count changes no answer
+/// but itself (the part `failed` tries it), and each call compares it.
 pub fn walk(both: &mut Both, depth: u32, alphabet: Alphabet) {
     let followed = HashMap::new();
     Walk { alphabet, followed }.go(both, depth);
@@ -32,7 +34,7 @@ pub fn walk(both: &mut Both, depth: u32, alphabet: Alphabet) {
 
 struct Walk {
     alphabet: Alphabet,
-    /// The states of both sides, and how many calls in a row were made from them.
+    /// The states of both sides without their counts, and how many calls in a row were made from them.
     followed: HashMap<ProvedSide, (RustSide, u32)>,
 }
 
@@ -51,12 +53,13 @@ impl Walk {
 
     /// Whether this many calls still have to be made from here. If so, remembers that they are made.
     fn is_new(&mut self, both: &Both, depth: u32) -> bool {
-        let before = self.followed.get(&both.proved);
-        if before.is_some_and(|(rust, calls)| *rust == both.rust && *calls >= depth) {
+        let rust = both.rust.uncounted();
+        let proved = both.proved.with_failed(Failed::default());
+        let before = self.followed.get(&proved);
+        if before.is_some_and(|(before, calls)| *before == rust && *calls >= depth) {
             return false;
         }
-        let here = (both.rust.copy(), depth);
-        self.followed.insert(both.proved, here);
+        self.followed.insert(proved, (rust, depth));
         true
     }
 }

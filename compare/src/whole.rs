@@ -4,6 +4,8 @@
 //! fields are private, but its values derive `Debug`, whose text has every field, and `PartialEq`. So the text of the Rust's value must be
 //! the text that the proved side's numbers give. Text is slow, so it is compared once for each set of numbers. Where the same numbers
 //! come again, the Rust's value must equal the value that had this text.
+//!
+//! The Rust's values have no count of failed outcomes. So the counts are compared with the driver's own, and then left out.
 
 use std::fmt::{self, Debug, Write};
 use std::hash::{DefaultHasher, Hash, Hasher};
@@ -13,7 +15,7 @@ use waymaker_core::{EffectIdAllocator, ReplayCursor, ReplayMachine};
 use crate::calls::Call;
 use crate::ffi::{CursorNumbers, IdsNumbers, MachineNumbers};
 use crate::proved_side::ProvedSide;
-use crate::rust_side::{Plain, RustSide};
+use crate::rust_side::{Failed, Plain, RustSide};
 
 /// How many values of a kind are remembered; a power of two.
 const REMEMBERED: usize = 1 << 14;
@@ -66,6 +68,11 @@ impl Whole {
         rust: &RustSide,
         proved: &ProvedSide,
     ) -> Result<(), (String, String)> {
+        let (own, held) = (rust.failed, proved.failed());
+        if own != held {
+            return Err((format!("{own:?}"), format!("{held:?}")));
+        }
+        let proved = proved.with_failed(Failed::default());
         match changed {
             Changed::Nothing => Ok(()),
             Changed::Ids => self.ids.same(&proved.ids, &rust.ids),

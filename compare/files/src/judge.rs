@@ -3,6 +3,7 @@
 
 use waymaker_core::{ClockCapability, RecordRef, TimerSpec};
 
+use crate::failures::failed_outcomes;
 use crate::histories::{Form, forms};
 use crate::reader::Step;
 use crate::resume::{Ending, Handover, Verdict, handover};
@@ -36,9 +37,10 @@ impl<'a> Judge<'a> {
                 stop,
                 records: count,
                 calls,
+                failed,
             } => self
                 .not_accepted(records, ending, stop)
-                .or_else(|| wrong_counts(records, ending, count, calls)),
+                .or_else(|| wrong_counts(records, ending, [count, calls, failed])),
             Verdict::No {
                 number,
                 place,
@@ -158,14 +160,14 @@ impl<'a> Judge<'a> {
     }
 }
 
-/// Accepted, the calls are the records, plus one when *due* or *open*.
+/// Accepted, the calls are the records, plus one when *due* or *open*, and every failed outcome counts.
 fn wrong_counts(
     records: &[RecordRef<'_>],
     ending: Ending,
-    count: u64,
-    calls: u64,
+    counts: [u64; 3],
 ) -> Option<&'static str> {
     let more = u64::from(matches!(ending, Ending::Due | Ending::Open));
     let right = records.len() as u64;
-    ((count, calls) != (right, right + more)).then_some("accepted with another count")
+    let right = [right, right + more, failed_outcomes(records)];
+    (counts != right).then_some("accepted with another count")
 }

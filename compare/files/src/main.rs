@@ -6,6 +6,7 @@ mod compared_files;
 mod damaged_files;
 mod damaged_list;
 mod edges;
+mod failures;
 mod files;
 mod histories;
 mod judge;

@@ -32,8 +32,8 @@ pub struct EntryNumbers {
     pub next_body: u64,
 }
 
-/// A verdict. `refused` 0: ending, stop, records, calls; 1: number, place, divergence, calls. What
-/// does not apply is 0.
+/// A verdict. `refused` 0: ending, stop, records, calls, failed outcomes; 1: number, place,
+/// divergence, calls. What does not apply is 0.
 #[repr(C)]
 #[derive(Clone, Copy, PartialEq, Eq, Debug, Default)]
 pub struct VerdictNumbers {
@@ -45,6 +45,7 @@ pub struct VerdictNumbers {
     pub place: u64,
     pub divergence: u64,
     pub calls: u64,
+    pub failed: u64,
 }
 
 /// A handover. `number` 0: `what` is 1 completed, 2 failed (parts of the journal) or 3 input
@@ -213,11 +214,13 @@ pub fn verdict(verdict: &Verdict) -> VerdictNumbers {
             stop,
             records,
             calls,
+            failed,
         } => VerdictNumbers {
             ending: ending_number(ending),
             stop,
             records,
             calls,
+            failed,
             ..VerdictNumbers::default()
         },
         Verdict::No {

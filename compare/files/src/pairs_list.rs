@@ -49,6 +49,7 @@ pub fn list() -> Vec<Bytes> {
     wrong_fields(&mut pairs, ClockCapability::Persistent, &[effect, boot], 1);
     wrong_fields(&mut pairs, ClockCapability::Persistent, &[persistent], 0);
     bodies(&mut pairs);
+    failures(&mut pairs);
     longest(&mut pairs);
     at_random(&mut pairs);
     pairs
@@ -304,6 +305,25 @@ fn bodies(pairs: &mut Vec<Bytes>) {
             push(pairs, capability, steps, &items);
             items[2].0.kind = 4;
             push(pairs, capability, steps, &items);
+        }
+    }
+}
+
+/// After a failed effect two more that fail: each is open, has an outcome with another number, and fails. Then the run is due or
+/// done, it is finished, and the failure comes again.
+fn failures(pairs: &mut Vec<Bytes>) {
+    let [first, _, second, _, third] = steps();
+    let steps = [first, second, third];
+    let failed = |number| entry(4, number, &[4, 5]);
+    let mut items = vec![entry(1, 0, &[]), opener(&first, 0), failed(0)];
+    for (step, number) in steps[1..].iter().zip(1..) {
+        let open = [&items[..], &[opener(step, number)]].concat();
+        let other = [&open[..], &[failed(number - 1)]].concat();
+        items = [&open[..], &[failed(number)]].concat();
+        let ended = [&items[..], &[entry(8, 0, &[6])]].concat();
+        let again = [&items[..], &[failed(number)]].concat();
+        for items in [&open, &other, &items, &ended, &again] {
+            push(pairs, ClockCapability::BootOnly, &steps, items);
         }
     }
 }

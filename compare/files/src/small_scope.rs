@@ -7,6 +7,7 @@ use waymaker_core::{
 };
 
 use crate::Settings;
+use crate::failures::Failures;
 use crate::judge::Judge;
 use crate::reader::Step;
 use crate::report::{differ_on_pair, same_pair, same_verdict};
@@ -25,14 +26,17 @@ pub fn run(settings: &Settings) -> String {
         boot(6),
     ];
     let alphabet = letters(&[0, 1, 2, 3, u32::MAX], true);
-    let mut followed = 0;
+    let (mut followed, mut failures) = (0, Failures::default());
     for_each_plan(&steps, |scope| {
         scope.follow(&alphabet);
         followed += scope.lists;
+        failures.join(&scope.failures);
     });
+    failures.must_be_all();
     format!(
-        "{whole} lists, every one of up to {} records; {followed} lists, longer where they begin a history",
-        settings.list_depth
+        "{whole} lists, every one of up to {} records; {followed} lists, longer where they begin a history, {}",
+        settings.list_depth,
+        failures.told()
     )
 }
 
@@ -155,6 +159,7 @@ struct Scope {
     plan: Vec<u8>,
     records: Vec<RecordRef<'static>>,
     lists: u64,
+    failures: Failures,
 }
 
 impl Scope {
@@ -164,6 +169,7 @@ impl Scope {
             judge: Judge::new(capability, steps),
             records: Vec::new(),
             lists: 0,
+            failures: Failures::default(),
         }
     }
 
@@ -214,6 +220,7 @@ impl Scope {
         if let Some(contradiction) = self.judge.contradiction(&self.records, &verdict) {
             self.wrong(contradiction);
         }
+        self.failures.add(&self.records, &verdict);
         match verdict {
             Verdict::Ok { ending, stop, .. } => self.check_handovers(&verdict, ending, stop),
             Verdict::No { .. } => same_verdict(&verdict, || self.journal(), &self.plan),

@@ -6,6 +6,7 @@ use std::io;
 use std::path::Path;
 
 use crate::damaged_list;
+use crate::failures::Failures;
 use crate::pairs_list;
 use crate::resume::{Handover, Verdict, handover, verdict};
 
@@ -29,6 +30,16 @@ const REFUSALS: [(u64, u64); 10] = [
     (25, 0),
     (31, 0),
 ];
+
+/// The lines of the first pairs, as document 01 prints them and 02 (request 10) ends them.
+const PRINTED: [&str; 4] = [
+    "ok open 0 2 3 0",
+    "ok unstarted 0 0 0 0",
+    "ok unstarted 0 0 0 0",
+    "ok done 0 1 1 0",
+];
+/// Each pair has the handover of so many boundaries, from 0 on.
+const BOUNDARIES: u64 = 4;
 
 /// Writes `test_files` and `test_pairs` in the folder, each with `stdin` and `stdout`.
 pub fn write(folder: &str) -> io::Result<()> {
@@ -71,10 +82,11 @@ fn damaged() -> (String, String) {
 
 fn verdicts() -> (String, String) {
     let (mut pairs, mut answers) = (String::new(), String::new());
-    let mut refusals = BTreeSet::new();
+    let (mut refusals, mut failures) = (BTreeSet::new(), Failures::default());
     for (journal, plan) in pairs_list::list() {
         pairs += &pairs_list::lines(&journal, &plan);
         let verdict = verdict(&journal, &plan);
+        failures.add_journal(&journal, &verdict);
         if let Verdict::No {
             number, divergence, ..
         } = verdict
@@ -82,13 +94,16 @@ fn verdicts() -> (String, String) {
             refusals.insert((number, divergence));
         }
         answers += &format!("{verdict}\n");
-        for boundary in 0..4 {
+        for boundary in 0..BOUNDARIES {
             answers += &handover_line(boundary, &handover(&journal, &plan, boundary));
         }
     }
     for refusal in READING.map(|number| (number, 0)).iter().chain(&REFUSALS) {
         assert!(refusals.contains(refusal), "no {refusal:?}");
     }
+    failures.must_be_all();
+    let lines = answers.lines().step_by(1 + BOUNDARIES as usize);
+    assert!(lines.take(PRINTED.len()).eq(PRINTED), "01's lines");
     (pairs, answers)
 }
 

@@ -6,6 +6,7 @@ use std::fmt::Write;
 use waymaker_core::RecordRef;
 
 use crate::Settings;
+use crate::failures::{Failures, failed_outcomes, records_of};
 use crate::judge::Judge;
 use crate::pairs::{Pair, journal_of};
 use crate::pairs_list;
@@ -48,6 +49,7 @@ struct Compared {
     judged: u64,
     /// How often each answer was given: the ending's word, or number and divergence.
     answers: BTreeMap<String, u64>,
+    failures: Failures,
 }
 
 impl Compared {
@@ -71,8 +73,19 @@ impl Compared {
         self.pairs += 1;
         self.handovers += steps + 4;
         *self.answers.entry(answer(&verdict)).or_default() += 1;
+        self.count_failed(journal, plan, &verdict);
         if steps <= JUDGED {
             self.judge(journal, plan, &verdict, boundaries());
+        }
+    }
+
+    /// Checks the count of failed outcomes of an accepted pair: all its records are accepted.
+    fn count_failed(&mut self, journal: &[u8], plan: &[u8], verdict: &Verdict) {
+        self.failures.add_journal(journal, verdict);
+        if let Verdict::Ok { failed, .. } = *verdict
+            && failed != failed_outcomes(&records_of(journal))
+        {
+            differ_on_pair("another count of failed outcomes", journal, plan);
         }
     }
 
@@ -109,7 +122,7 @@ impl Compared {
         for (answer, pairs) in &self.answers {
             write!(told, " {answer}: {pairs}").expect("a string takes all text");
         }
-        told
+        told + "; " + &self.failures.told()
     }
 }
 
