@@ -6,9 +6,10 @@ use Rattle.endings.specs.Endings.{endingNumber}
 use Rattle.hiskurdo.specs.declared.verdicts.HandoverNumbers.{HandoverNumbers}
 use Rattle.hiskurdo.specs.declared.verdicts.VerdictNumbers.{VerdictNumbers}
 
--- "`ok`, ending, stop, records, calls; or `no`, number, place, divergence, calls": each in its own field, and 0 in the others
+-- "`ok`, ending, stop, records, calls; or `no`, number, place, divergence, calls", and with `ok` the failed steps of 02: each in its own
+-- field, and 0 in the others
 abbrev pub verdictNumbers : Answer → VerdictNumbers
-verdictNumbers (Answer.Ok ending stop records calls) = record {
+verdictNumbers (Answer.Ok ending stop records calls failed) = record {
   refused = 0;
   ending = endingNumber ending;
   stop = stop;
@@ -17,6 +18,7 @@ verdictNumbers (Answer.Ok ending stop records calls) = record {
   place = 0;
   divergence = 0;
   calls = calls;
+  failed = failed;
 }
 verdictNumbers (Answer.No number place divergence calls) = record {
   refused = 1;
@@ -27,6 +29,7 @@ verdictNumbers (Answer.No number place divergence calls) = record {
   place = place;
   divergence = divergence;
   calls = calls;
+  failed = 0;
 }
 
 -- the handover's: number, what is given, start, length

@@ -9,7 +9,7 @@ use histories::Handed;
 use records::Body;
 use resume::handing;
 
-// A verdict. refused 0: ending (0 unstarted, 1 due, 2 done, 3 open, 4 finished), stop, records, calls;
+// A verdict. refused 0: ending (0 unstarted, 1 due, 2 done, 3 open, 4 finished), stop, records, calls, failed;
 // refused 1: number, place, divergence, calls. What does not apply is 0.
 #[repr(C)]
 pub struct VerdictNumbers {
@@ -21,6 +21,7 @@ pub struct VerdictNumbers {
     pub place: u64,
     pub divergence: u64,
     pub calls: u64,
+    pub failed: u64,
 }
 
 // A handover. number 0: what (1 completed, 2 failed: of the journal; 3 input: of the plan), where it starts there and how
@@ -43,6 +44,7 @@ pub extern "C" fn hiskurdo_verdict(journal: &[u8], plan: &[u8]) -> VerdictNumber
             stop,
             records,
             calls,
+            failed,
         } => VerdictNumbers {
             refused: 0,
             ending: ending.number(),
@@ -52,6 +54,7 @@ pub extern "C" fn hiskurdo_verdict(journal: &[u8], plan: &[u8]) -> VerdictNumber
             place: 0,
             divergence: 0,
             calls,
+            failed,
         },
         Answer::No {
             number,
@@ -67,6 +70,7 @@ pub extern "C" fn hiskurdo_verdict(journal: &[u8], plan: &[u8]) -> VerdictNumber
             place,
             divergence,
             calls,
+            failed: 0,
         },
     }
 }

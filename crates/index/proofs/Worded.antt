@@ -32,7 +32,7 @@ hasRow [] number detail = false
 hasRow (r ∷ rows) number detail = isOf number detail r || hasRow rows number detail
 
 abbrev pub Worded : Answer → ℕ → Type 0
-Worded (Answer.Ok ending stop records calls) kind = T (hasRow table 0 (endingDetail ending kind))
+Worded (Answer.Ok ending stop records calls failed) kind = T (hasRow table 0 (endingDetail ending kind))
 Worded (Answer.No number place divergence calls) kind = T (hasRow table number (detailOf number place divergence kind))
 
 ending-worded : (ending : Ending) (kind : ℕ) → T (hasRow table 0 (endingDetail ending kind))
@@ -87,7 +87,7 @@ replayed kind place n d listed of = by-number (eqb n 24) (eqb n 31) refl refl (o
 
 kept-worded : {capability : ClockCapability} {plan : List PlanStep} {records : List RecordRef} (answer : Answer) (kind : ℕ) →
     Promise capability plan records answer → Worded answer kind
-kept-worded (Answer.Ok ending stop records calls) kind kept = ending-worded ending kind
+kept-worded (Answer.Ok ending stop records calls failed) kind kept = ending-worded ending kind
 kept-worded (Answer.No number place divergence calls) kind kept =
     let listed = promise-listed kept in
     replayed kind place number divergence (listed .0) (listed .1)

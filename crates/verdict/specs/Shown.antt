@@ -1,5 +1,6 @@
--- 01's own lines, from the files' bytes to the printed text: two of the starred examples, and the worked pair. Then the worked pair
--- with another recorded input: 02, "Length or CRC".
+-- 01's own lines, from the files' bytes to the printed text: two of the starred examples, and the worked pair, each with the last 0
+-- that 02 adds ("Failed steps counted in the cursor"). Then the worked pair with an outcome, which fails or not; and with another
+-- recorded input: 02, "Length or CRC".
 use Prim.Native.Nat.{ℕ}
 use Prim.Native.String.{String}
 use mathlib.Core.List.{List, [], _∷_, _++_}
@@ -24,16 +25,23 @@ started = (1 ∷ 0 ∷ 1 ∷ zeros 13) ++ (1 ∷ zeros 23)
 abbrev emptyPlan : ℕ → List ℕ
 emptyPlan capability = (2 ∷ 0 ∷ 0 ∷ 0 ∷ capability ∷ []) ++ zeros 11
 
--- "Journal .. Plan .. Output: `ok open 0 2 3`"
-abbrev workedFront : List ℕ
-workedFront = (1 ∷ 0 ∷ 2 ∷ 0 ∷ 7 ∷ zeros 11) ++ (1 ∷ 0 ∷ 3 ∷ zeros 5) ++ (1 ∷ zeros 15)
+-- "Journal .. Plan .. Output: `ok open 0 2 3`", of as many records
+abbrev workedFront : ℕ → List ℕ
+workedFront count = (1 ∷ 0 ∷ count ∷ 0 ∷ 7 ∷ zeros 11) ++ (1 ∷ 0 ∷ 3 ∷ zeros 5) ++ (1 ∷ zeros 15)
+
+abbrev workedOpener : List ℕ
+workedOpener = 2 ∷ 0 ∷ 5 ∷ zeros 21
 
 abbrev workedJournal : List ℕ
-workedJournal = workedFront ++ (2 ∷ 0 ∷ 5 ∷ zeros 21)
+workedJournal = workedFront 2 ++ workedOpener
+
+-- the same journal with an outcome: kind 3 completed, kind 4 failed
+abbrev closedWith : ℕ → List ℕ
+closedWith kind = workedFront 3 ++ workedOpener ++ (kind ∷ zeros 23)
 
 -- the same journal, with this recorded length and CRC, both below 256
 abbrev recordedWith : ℕ → ℕ → List ℕ
-recordedWith len crc = workedFront ++ (2 ∷ 0 ∷ 5 ∷ zeros 5) ++ (len ∷ zeros 7) ++ (crc ∷ zeros 7)
+recordedWith len crc = workedFront 2 ++ (2 ∷ 0 ∷ 5 ∷ zeros 5) ++ (len ∷ zeros 7) ++ (crc ∷ zeros 7)
 
 abbrev workedPlan : List ℕ
 workedPlan = (2 ∷ 0 ∷ 1 ∷ zeros 13) ++ (2 ∷ 0 ∷ 5 ∷ zeros 21)
@@ -41,11 +49,13 @@ workedPlan = (2 ∷ 0 ∷ 1 ∷ zeros 13) ++ (2 ∷ 0 ∷ 5 ∷ zeros 21)
 -- what is printed, and what 01 or 02 says
 abbrev pub shownLines : List (List ℕ × List ℕ)
 shownLines =
-    (lineOf (verdictRule none (emptyPlan 0)), ascii "ok unstarted 0 0 0\n") ∷
-    (lineOf (verdictRule none workedPlan), ascii "ok unstarted 0 0 0\n") ∷
-    (lineOf (verdictRule started (emptyPlan 0)), ascii "ok done 0 1 1\n") ∷
-    (lineOf (verdictRule started (emptyPlan 1)), ascii "ok done 0 1 1\n") ∷
-    (lineOf (verdictRule workedJournal workedPlan), ascii "ok open 0 2 3\n") ∷
+    (lineOf (verdictRule none (emptyPlan 0)), ascii "ok unstarted 0 0 0 0\n") ∷
+    (lineOf (verdictRule none workedPlan), ascii "ok unstarted 0 0 0 0\n") ∷
+    (lineOf (verdictRule started (emptyPlan 0)), ascii "ok done 0 1 1 0\n") ∷
+    (lineOf (verdictRule started (emptyPlan 1)), ascii "ok done 0 1 1 0\n") ∷
+    (lineOf (verdictRule workedJournal workedPlan), ascii "ok open 0 2 3 0\n") ∷
+    (lineOf (verdictRule (closedWith 3) workedPlan), ascii "ok done 1 3 3 0\n") ∷
+    (lineOf (verdictRule (closedWith 4) workedPlan), ascii "ok done 1 3 3 1\n") ∷
     (lineOf (verdictRule (recordedWith 1 0) workedPlan), ascii "no 22 1 8 2\n") ∷
     (lineOf (verdictRule (recordedWith 0 1) workedPlan), ascii "no 22 1 9 2\n") ∷
     (lineOf (verdictRule (recordedWith 1 1) workedPlan), ascii "no 22 1 8 2\n") ∷ []
