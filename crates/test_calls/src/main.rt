@@ -367,6 +367,8 @@ fn machine_readers(machine: MachineNumbers) {
     say(machines::hiskurdo_machine_pending_timer(machine));
     io::write_all(1, b" ");
     value(machines::hiskurdo_machine_diverged(machine));
+    io::write_all(1, b" ");
+    value(machines::hiskurdo_machine_failed(machine));
     unread(machine);
 }
 
@@ -399,6 +401,8 @@ fn readers(cursor: CursorNumbers) {
     say(core_exports::hiskurdo_cursor_next_seq(cursor));
     io::write_all(1, b" ");
     say(core_exports::hiskurdo_cursor_next_effect_id(cursor));
+    io::write_all(1, b" ");
+    value(core_exports::hiskurdo_cursor_failed(cursor));
 }
 
 // A value that is one number; a refusal is said whole.
@@ -429,6 +433,8 @@ fn lent_readers(cursor: ReplayCursor) {
     say(cursor.next_seq().told());
     io::write_all(1, b" ");
     say(cursor.next_effect_id().told());
+    io::write_all(1, b" ");
+    number(cursor.failed());
 }
 
 fn flag(yes: bool) -> u64 {

@@ -6,6 +6,7 @@ use Rattle.ids.specs.declared.EffectIdAllocator.{EffectIdAllocator}
 use Rattle.cursor.specs.declared.State.the-variants as State
 use Rattle.cursor.specs.declared.Step.{Step}
 use Rattle.cursor.specs.declared.Step.the-variants as Step
+use Rattle.cursor.specs.Readers.{cursorAt, withFailed}
 use Rattle.cursor.specs.declared.StepResult.{StepResult}
 use Rattle.cursor.specs.declared.StepResult.the-variants as StepResult
 use Rattle.machine.specs.declared.Phase.{Phase}
@@ -18,8 +19,8 @@ abbrev pub toLastRule : Counted
 toLastRule = record { machine = afterMarkers 4294967295; markers = 4294967295 }
 
 -- a machine that replays
-abbrev pub replayingWith : EffectIdAllocator → Phase → ReplayMachine
-replayingWith ids phase = record { cursor = record { ids = ids; state = State.Replaying }; phase = phase }
+abbrev pub replayingWith : EffectIdAllocator → ℕ → Phase → ReplayMachine
+replayingWith ids failed phase = record { cursor = withFailed (cursorAt ids State.Replaying) failed; phase = phase }
 
 -- whether the answer is the step of the marker with this number
 abbrev pub marksIn : ℕ → Step → Bool

@@ -10,6 +10,7 @@ use Rattle.cursor.specs.declared.State.the-variants as State
 use Rattle.cursor.specs.declared.StepResult.{StepResult}
 use Rattle.cursor.specs.declared.StepResult.the-variants as StepResult
 use Rattle.cursor.specs.Advance.{acceptedStep}
+use Rattle.cursor.specs.Readers.{cursorAt}
 use Rattle.machine.specs.declared.Phase.the-variants as Phase
 use Rattle.machine.specs.declared.ReplayMachine.{ReplayMachine}
 use Rattle.machine.specs.Phases.{freshMachine, machineAdvanceRule}
@@ -38,7 +39,7 @@ pub data Marked : ℕ → ReplayMachine → Type 0 where
 abbrev pub offering : SeqOption → ReplayMachine
 offering next =
     record {
-      cursor = record { ids = record { run = walkedRun; next = next }; state = State.Replaying };
+      cursor = cursorAt (record { run = walkedRun; next = next }) State.Replaying;
       phase = Phase.Settled;
     }
 

@@ -96,7 +96,7 @@ fn walk_to_last() -> Counted
         };
         let ids = cursor.ids;
         let phase = next.phase;
-        machine = replaying(ids, phase);
+        machine = replaying(ids, cursor.failed, phase);
         number += 1;
     }
     Counted {
@@ -105,15 +105,12 @@ fn walk_to_last() -> Counted
     }
 }
 
-// The machine that replays, of its two parts; so the room of an open boundary is not copied.
-fn replaying(ids: EffectIdAllocator, phase: Phase) -> ReplayMachine
-    ensures { λ r. ⌜ r ≡ replayingWith ids phase ⌝ }
+// The machine that replays, of its parts; so the room of an open boundary is not copied.
+fn replaying(ids: EffectIdAllocator, failed: u64, phase: Phase) -> ReplayMachine
+    ensures { λ r. ⌜ r ≡ replayingWith ids failed phase ⌝ }
 {
     ReplayMachine {
-        cursor: ReplayCursor {
-            ids,
-            state: State::Replaying,
-        },
+        cursor: ReplayCursor::at(ids, State::Replaying).with_failed(failed),
         phase,
     }
 }
