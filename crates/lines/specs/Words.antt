@@ -122,4 +122,4 @@ resumeOf (Answer.No number place divergence calls) = ascii "no"
 
 -- the version, as both programs print it
 abbrev pub versionLine : List ℕ
-versionLine = ascii "hiskurdo 0.1.0\n"
+versionLine = ascii "hiskurdo 0.2.0\n"

@@ -139,5 +139,5 @@ pub fn line_of(answer: Answer) -> Line
 pub fn version() -> Line
     ensures { λ r. ⌜ Holds r versionLine ⌝ }
 {
-    write(empty(), b"hiskurdo 0.1.0\n")
+    write(empty(), b"hiskurdo 0.2.0\n")
 }
