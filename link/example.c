@@ -59,8 +59,8 @@ static void print_verdict(HiskurdoVerdictNumbers verdict) {
                verdict.number, verdict.place, verdict.divergence, verdict.calls);
         return;
     }
-    printf("verdict: %s, stop %" PRIu64 ", records %" PRIu64 ", calls %" PRIu64 "\n", endings[verdict.ending], verdict.stop,
-           verdict.records, verdict.calls);
+    printf("verdict: %s, stop %" PRIu64 ", records %" PRIu64 ", calls %" PRIu64 ", failed %" PRIu64 "\n", endings[verdict.ending],
+           verdict.stop, verdict.records, verdict.calls, verdict.failed);
 }
 
 static void print_texts(const File *journal, const File *plan) {

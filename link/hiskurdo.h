@@ -166,8 +166,8 @@ HiskurdoEntryNumbers hiskurdo_next_record(const uint8_t *file, size_t file_len, 
 HiskurdoEntryNumbers hiskurdo_next_step(const uint8_t *file, size_t file_len, uint64_t entry, uint64_t body);
 
 /* The verdict on a journal and a plan. What does not apply is 0.
- * refused 0: ending, stop (how many steps have an outcome), records and calls. The records are a history of the plan with
- * that ending and stop, and with no other.
+ * refused 0: ending, stop (how many steps have an outcome), records, calls and failed (how many of the outcomes are failures). The
+ * records are a history of the plan with that ending and stop, and with no other.
  * refused 1: number, place (the record, or the record count at the end; for 7, 8, 17, 18 and 44 the entry; else 0), divergence
  * (with 22) and calls. number is 1 to 19 or 44 exactly where a file is not readable, the journal read first. Else the records
  * are no history of the plan: the first place of them begin one and the first place + 1 do not, or place is the count of
@@ -181,6 +181,7 @@ typedef struct {
     uint64_t place;
     uint64_t divergence;
     uint64_t calls;
+    uint64_t failed;
 } HiskurdoVerdictNumbers;
 
 HiskurdoVerdictNumbers hiskurdo_verdict(const uint8_t *journal, size_t journal_len, const uint8_t *plan, size_t plan_len);
@@ -216,7 +217,7 @@ HiskurdoHandoverNumbers hiskurdo_handover(const uint8_t *journal, size_t journal
  * that have a name here to crates/ and README.md. */
 static_assert(sizeof(HiskurdoReadNumbers) == 32 && offsetof(HiskurdoReadNumbers, count) == 24, "ReadNumbers");
 static_assert(sizeof(HiskurdoEntryNumbers) == 80 && offsetof(HiskurdoEntryNumbers, next_body) == 72, "EntryNumbers");
-static_assert(sizeof(HiskurdoVerdictNumbers) == 64 && offsetof(HiskurdoVerdictNumbers, calls) == 56, "VerdictNumbers");
+static_assert(sizeof(HiskurdoVerdictNumbers) == 72 && offsetof(HiskurdoVerdictNumbers, failed) == 64, "VerdictNumbers");
 static_assert(sizeof(HiskurdoHandoverNumbers) == 32 && offsetof(HiskurdoHandoverNumbers, len) == 24, "HandoverNumbers");
 static_assert(sizeof(size_t) == 8 && sizeof(void *) == 8, "the library is for x86-64");
 
