@@ -53,7 +53,8 @@ fn usage(fd: i32) {
         b"\
         index FOLDER...  (as: index runs/*)\n\
         For each run folder, with its files run.jnl and run.pln, one row:\n\
-        folder, may the run be resumed and at which step, the verdict's line, what to do or what failed.\n\
+        folder, may the run be resumed and at which step, the verdict's line, plain words: what to do and how many\n\
+        steps failed, or which line of the checklist failed.\n\
         Steps and records are counted from 0. A tab stands between two fields.\n\
         index --help, index -h: this text; index --version: the version. A folder named -x is given as ./-x\n\
         ",

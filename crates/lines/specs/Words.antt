@@ -102,6 +102,7 @@ detailOf number place divergence kind =
 abbrev pub tellsFailed : Ending → ℕ → Bool
 tellsFailed ending failed = eqb (endingNumber ending) (endingNumber Ending.Done) || not (eqb failed 0)
 
+-- then the words of the ending go on so
 abbrev pub failedWords : ℕ → List ℕ
 failedWords failed = ascii "; failed steps: " ++ decimal failed
 

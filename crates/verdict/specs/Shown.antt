@@ -25,7 +25,7 @@ started = (1 ∷ 0 ∷ 1 ∷ zeros 13) ++ (1 ∷ zeros 23)
 abbrev emptyPlan : ℕ → List ℕ
 emptyPlan capability = (2 ∷ 0 ∷ 0 ∷ 0 ∷ capability ∷ []) ++ zeros 11
 
--- "Journal .. Plan .. Output: `ok open 0 2 3`", of as many records
+-- "Journal .. Plan .. Output: `ok open 0 2 3`": the journal up to its first entry, with this count in the header
 abbrev workedFront : ℕ → List ℕ
 workedFront count = (1 ∷ 0 ∷ count ∷ 0 ∷ 7 ∷ zeros 11) ++ (1 ∷ 0 ∷ 3 ∷ zeros 5) ++ (1 ∷ zeros 15)
 

@@ -34,7 +34,8 @@ fn usage(fd: i32) {
         b"\
         verdict [FOLDER]  (as: verdict runs/a; without FOLDER: the current folder)\n\
         One line on the run in the folder's files run.jnl and run.pln:\n\
-        ok ENDING STOP RECORDS CALLS: a history of the plan, with STOP whole steps. ENDING says what to do:\n\
+        ok ENDING STOP RECORDS CALLS FAILED: a history of the plan, with STOP whole steps, of which FAILED failed.\n\
+        ENDING says what to do:\n\
         unstarted: start it as a new run; due: start step STOP; open: deliver step STOP, or arm its timer, again;\n\
         done, finished: nothing is left to deliver.\n\
         no NUMBER PLACE DIVERGENCE CALLS: not to be resumed. README.md, \"How to read a refusal\", lists the numbers.\n\
