@@ -14,7 +14,6 @@ use Rattle.records.specs.declared.RecordRef.{RecordRef}
 use Rattle.cursor.specs.declared.State.{State}
 use Rattle.cursor.specs.declared.State.the-variants as State
 use Rattle.cursor.specs.declared.StepResult.{StepResult}
-use Rattle.cursor.specs.Readers.{withState}
 use Rattle.cursor.specs.Advance as Cursor
 use Rattle.cursor.proofs.State as the
 use Rattle.machine.specs.declared.ReplayMachine.{ReplayMachine}
@@ -98,9 +97,12 @@ never-else s o e =
     let tags : List ℕ = 0 ∷ 2 ∷ 3 ∷ 4 ∷ 5 ∷ 6 ∷ [] in
     elim (miss tags 1 tt (subst (λ (y : State). OneOf tags (tagOf the.the-type y)) e o)) [ ]
 
--- the machine made of the allocator, the count and the phase of one that replays is that one
-pub same : (m : ReplayMachine) → m .cursor .state ≡ State.Replaying → replayingWith (m .cursor .ids) (m .cursor .failed) (m .phase) ≡ m
-same m e = ap (λ (y : State). record { cursor = withState (m .cursor) y; phase = m .phase }) (sym e)
+-- the machine made of the allocator and the phase of such a one is that one
+pub same : (n : ℕ) {a : MachineAdvanced} {next : SeqOption} → a ≡ record { machine = offering next; answer = markerAccepted n }
+    → replayingWith (a .machine .cursor .ids) (a .machine .phase) ≡ a .machine
+same n is =
+    ap (λ (y : MachineAdvanced). replayingWith (y .machine .cursor .ids) (y .machine .phase)) is ∙
+    sym (ap (λ (y : MachineAdvanced). y .machine) is)
 
 -- a turn of the loop
 pub turned : (n : ℕ) {next : ReplayMachine} (a : MachineAdvanced) → n < 4294967295

@@ -6,7 +6,7 @@ use Rattle.ids.specs.declared.EffectIdAllocator.{EffectIdAllocator}
 use Rattle.cursor.specs.declared.State.the-variants as State
 use Rattle.cursor.specs.declared.Step.{Step}
 use Rattle.cursor.specs.declared.Step.the-variants as Step
-use Rattle.cursor.specs.Readers.{cursorAt, withFailed}
+use Rattle.cursor.specs.Readers.{cursorAt}
 use Rattle.cursor.specs.declared.StepResult.{StepResult}
 use Rattle.cursor.specs.declared.StepResult.the-variants as StepResult
 use Rattle.machine.specs.declared.Phase.{Phase}
@@ -18,9 +18,9 @@ use Rattle.test_numbering.specs.Walk.{afterMarkers}
 abbrev pub toLastRule : Counted
 toLastRule = record { machine = afterMarkers 4294967295; markers = 4294967295 }
 
--- a machine that replays
-abbrev pub replayingWith : EffectIdAllocator → ℕ → Phase → ReplayMachine
-replayingWith ids failed phase = record { cursor = withFailed (cursorAt ids State.Replaying) failed; phase = phase }
+-- a machine that replays and has counted no failed step
+abbrev pub replayingWith : EffectIdAllocator → Phase → ReplayMachine
+replayingWith ids phase = record { cursor = cursorAt ids State.Replaying; phase = phase }
 
 -- whether the answer is the step of the marker with this number
 abbrev pub marksIn : ℕ → Step → Bool

@@ -96,7 +96,7 @@ fn walk_to_last() -> Counted
         };
         let ids = cursor.ids;
         let phase = next.phase;
-        machine = replaying(ids, cursor.failed, phase);
+        machine = replaying(ids, phase);
         number += 1;
     }
     Counted {
@@ -105,12 +105,12 @@ fn walk_to_last() -> Counted
     }
 }
 
-// The machine that replays, of its parts; so the room of an open boundary is not copied.
-fn replaying(ids: EffectIdAllocator, failed: u64, phase: Phase) -> ReplayMachine
-    ensures { λ r. ⌜ r ≡ replayingWith ids failed phase ⌝ }
+// The machine that replays, of its two parts; so the room of an open boundary is not copied. No marker is a failed step.
+fn replaying(ids: EffectIdAllocator, phase: Phase) -> ReplayMachine
+    ensures { λ r. ⌜ r ≡ replayingWith ids phase ⌝ }
 {
     ReplayMachine {
-        cursor: ReplayCursor::at(ids, State::Replaying).with_failed(failed),
+        cursor: ReplayCursor::at(ids, State::Replaying),
         phase,
     }
 }

@@ -51,7 +51,7 @@ loop-again c =
     let is = answered (loop .number) (made .marker .ensures) (called .advance2 .ensures) (loop .inv .0)
     (takes (loop .number) (turn .loop-test .taken)) in
     turned (loop .number) advanced (turn .loop-test .taken)
-    (c .replaying .ensures ∙ same (advanced .machine) (replays (loop .number) is)) is
+    (c .replaying .ensures ∙ same (loop .number) is) is
     (one-on (loop .number) (made .marker .ensures) (called .advance2 .ensures) (loop .inv .1 .1) is)
 
 returns-3 : tie.Need-returns-3 Inv-loop μ-loop
