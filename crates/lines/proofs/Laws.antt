@@ -15,7 +15,7 @@ use Rattle.lines.specs.declared.Line.{Line}
 use Rattle.lines.specs.Line.{lineOf, holding, Holds}
 use Rattle.endings.specs.declared.Ending.{Ending}
 use Rattle.endings.specs.Endings.{ascii, endingNumber}
-use Rattle.lines.specs.Words.{Row, table, otherWords, isOf, wordsIn, filled, endingDetail, tellsFailed, failedWords, endingWords, detailOf, wordsOf}
+use Rattle.lines.specs.Words.{Row, table, otherWords, isOf, wordsIn, filled, endingDetail, tellsFailed, failedWords, endingWords, detailOf, shownFor, wordsOf}
 
 pub held-len : (line : Line) (text : List ℕ) → Holds line text → line .len ≡ length text
 held-len line text h = ap (λ (l : Line). l .len) (h .whole)
@@ -63,7 +63,7 @@ words-some (Answer.Ok ending stop records calls failed) kind =
     let words = filled stop (ascii (wordsIn table 0 (endingDetail ending kind))) in
     let told = cond (tellsFailed ending failed) (failedWords failed) [] in
     omega (arith, table-some stop 0 (endingDetail ending kind), length-append words told)
-words-some (Answer.No number place divergence calls) kind = table-some place number (detailOf number place divergence kind)
+words-some (Answer.No number place divergence calls) kind = table-some (shownFor number place) number (detailOf number place divergence kind)
 
 -- whether the failed steps are told, by the ending's number
 pub tells-by : (ending : Ending) (failed n : ℕ) (b : Bool) → n ≡ endingNumber ending → (eqb n 2 || not (eqb failed 0)) ≡ b →

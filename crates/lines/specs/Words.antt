@@ -7,6 +7,7 @@ use lib.Dec.{eqb}
 use Rattle.records.specs.Records.{among, openerKinds}
 use Rattle.histories.specs.declared.Answer.{Answer}
 use Rattle.histories.specs.declared.Answer.the-variants as Answer
+use Rattle.histories.specs.Promise.{stepAt}
 use Rattle.endings.specs.declared.Ending.{Ending}
 use Rattle.endings.specs.declared.Ending.the-variants as Ending
 use Rattle.endings.specs.Endings.{ascii, endingNumber, stillToRun}
@@ -61,7 +62,8 @@ table =
     row 25 0 "Recorded timers fit this board's clocks: the next step's timer, due at record #, does not" ∷
     row 31 0 "Each step matches the plan: record # opens a step beyond the plan's last" ∷
     row 31 1 "Each step matches the plan: record # is a version marker after the plan's last step" ∷
-    row 44 0 "Plan: entry # is a timer of 0: fill in the incubation" ∷ []
+    row 44 0 "Plan: entry # is a timer of 0: fill in the incubation" ∷
+    row 45 0 "Each step matches the plan: the run was completed at step # of the plan, before its last" ∷ []
 
 abbrev pub otherWords : String
 otherWords = "No file can give this answer: keep both files and report them"
@@ -98,6 +100,10 @@ detailOf number place divergence kind =
     cond (eqb number 24) (cond (eqb place 0) 0 (cond (among openerKinds kind) 2 1))
     (cond (eqb number 31) (cond (eqb kind 9) 1 0) divergence)
 
+-- what `#` stands for in a refusal: the place; for 45 the step at which the run was completed
+abbrev pub shownFor : ℕ → ℕ → ℕ
+shownFor number place = cond (eqb number 45) (stepAt place) place
+
 -- How many steps failed is told where one did, and of a run that is done in any case.
 abbrev pub tellsFailed : Ending → ℕ → Bool
 tellsFailed ending failed = eqb (endingNumber ending) (endingNumber Ending.Done) || not (eqb failed 0)
@@ -114,7 +120,7 @@ endingWords ending stop kind failed =
 unfoldable pub wordsOf : Answer → ℕ → List ℕ
 wordsOf (Answer.Ok ending stop records calls failed) kind = endingWords ending stop kind failed
 wordsOf (Answer.No number place divergence calls) kind =
-    filled place (ascii (wordsIn table number (detailOf number place divergence kind)))
+    filled (shownFor number place) (ascii (wordsIn table number (detailOf number place divergence kind)))
 
 -- whether the run may be resumed, and at which step: it may where a step is still to run
 unfoldable pub resumeOf : Answer → List ℕ

@@ -6,7 +6,7 @@ ghost use lib.ListN.{length, drop};
 ghost use Rattle.endings.specs.Endings.{ascii, stillToRun};
 ghost use Rattle.lines.specs.Line.{Holds};
 ghost use Rattle.lines.specs.Writing.{written};
-ghost use Rattle.lines.specs.Words.{table, wordsIn, filled, shown, endingDetail, endingWords, detailOf, wordsOf, resumeOf};
+ghost use Rattle.lines.specs.Words.{table, wordsIn, filled, shown, endingDetail, endingWords, detailOf, shownFor, wordsOf, resumeOf};
 ghost use Rattle.lines.specs.Rows.{coded, afterLine, ofLine, keyed, wordsAt};
 use crate::Line;
 use endings::Ending;
@@ -151,6 +151,7 @@ fn said(number: u64, detail: u64, n: u64) -> Line
         31 0 Each step matches the plan: record # opens a step beyond the plan's last\n\
         31 1 Each step matches the plan: record # is a version marker after the plan's last step\n\
         44 0 Plan: entry # is a timer of 0: fill in the incubation\n\
+        45 0 Each step matches the plan: the run was completed at step # of the plan, before its last\n\
         ",
         number,
         detail,
@@ -189,6 +190,13 @@ fn detail_of(number: u64, place: u64, divergence: u64, kind: u8) -> u64
     if kind == 9 { 1 } else { 0 }
 }
 
+// What `#` stands for in a refusal: the place; for 45 the step, as the start is one record and each step before has two.
+fn shown_for(number: u64, place: u64) -> u64
+    ensures { λ r. ⌜ r ≡ shownFor number place ⌝ }
+{
+    if number == 45 { place / 2 } else { place }
+}
+
 // What an ending means, and how many steps failed: where one did, and of a run that is done in any case.
 fn ending_words(ending: Ending, stop: u64, kind: u8, failed: u64) -> Line
     ensures { λ r. ⌜ Holds r (endingWords ending stop kind failed) ⌝ }
@@ -217,7 +225,11 @@ pub fn words_of(answer: Answer, kind: u8) -> Line
             place,
             divergence,
             calls,
-        } => said(number, detail_of(number, place, divergence, kind), place),
+        } => said(
+            number,
+            detail_of(number, place, divergence, kind),
+            shown_for(number, place),
+        ),
     }
 }
 
