@@ -1,6 +1,6 @@
 -- 01's own lines, from the files' bytes to the printed text: two of the starred examples, and the worked pair, each with the last 0
--- that 02 adds ("Failed steps counted in the cursor"). Then the worked pair with an outcome, which fails or not; and with another
--- recorded input: 02, "Length or CRC".
+-- that 02 adds ("Failed steps counted in the cursor"). Then the worked pair with an outcome, which fails or not; with another
+-- recorded input: 02, "Length or CRC"; and with the end of its run: 02, "Completed too soon".
 use Prim.Native.Nat.{ℕ}
 use Prim.Native.String.{String}
 use mathlib.Core.List.{List, [], _∷_, _++_}
@@ -39,6 +39,14 @@ workedJournal = workedFront 2 ++ workedOpener
 abbrev closedWith : ℕ → List ℕ
 closedWith kind = workedFront 3 ++ workedOpener ++ (kind ∷ zeros 23)
 
+-- the same journal without its opener, and with the end of the run in its place: kind 7 completed, kind 8 failed
+abbrev endedWith : ℕ → List ℕ
+endedWith kind = workedFront 2 ++ (kind ∷ zeros 23)
+
+-- completed twice
+abbrev endedTwice : List ℕ
+endedTwice = workedFront 3 ++ (7 ∷ zeros 23) ++ (7 ∷ zeros 23)
+
 -- the same journal, with this recorded length and CRC, both below 256
 abbrev recordedWith : ℕ → ℕ → List ℕ
 recordedWith len crc = workedFront 2 ++ (2 ∷ 0 ∷ 5 ∷ zeros 5) ++ (len ∷ zeros 7) ++ (crc ∷ zeros 7)
@@ -58,4 +66,9 @@ shownLines =
     (lineOf (verdictRule (closedWith 4) workedPlan), ascii "ok done 1 3 3 1\n") ∷
     (lineOf (verdictRule (recordedWith 1 0) workedPlan), ascii "no 22 1 8 2\n") ∷
     (lineOf (verdictRule (recordedWith 0 1) workedPlan), ascii "no 22 1 9 2\n") ∷
-    (lineOf (verdictRule (recordedWith 1 1) workedPlan), ascii "no 22 1 8 2\n") ∷ []
+    (lineOf (verdictRule (recordedWith 1 1) workedPlan), ascii "no 22 1 8 2\n") ∷
+    (lineOf (verdictRule (endedWith 7) workedPlan), ascii "no 45 1 0 2\n") ∷
+    (lineOf (verdictRule endedTwice workedPlan), ascii "no 45 1 0 2\n") ∷
+    (lineOf (verdictRule (endedWith 8) workedPlan), ascii "ok finished 0 2 2 0\n") ∷
+    (lineOf (verdictRule (endedWith 7) (emptyPlan 0)), ascii "ok finished 0 2 2 0\n") ∷
+    (lineOf (verdictRule endedTwice (emptyPlan 0)), ascii "no 24 2 0 3\n") ∷ []
