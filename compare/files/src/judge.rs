@@ -1,4 +1,4 @@
-//! Checks a verdict and its handovers against document 01's definition of histories, which
+//! Checks a verdict and its handovers against the definition of histories (documents 01 and 02), which
 //! does not use the machine.
 
 use waymaker_core::{ClockCapability, RecordRef, TimerSpec};
@@ -44,11 +44,11 @@ impl<'a> Judge<'a> {
             Verdict::No {
                 number,
                 place,
+                divergence,
                 calls,
-                ..
             } => match place < records.len() as u64 {
-                true => self.not_refused_at(records, number, place as usize, calls),
-                false => self.not_refused_at_the_end(records, number, place, calls),
+                true => self.not_refused_at(records, place as usize, [number, divergence, calls]),
+                false => self.not_refused_at_the_end(records, place, [number, divergence, calls]),
             },
         }
     }
@@ -70,13 +70,13 @@ impl<'a> Judge<'a> {
         fitting.next().map(|_| "two endings or stops fit")
     }
 
-    /// Refused at record p: the first p records begin a history, the first p + 1 none.
+    /// Refused at record p: the first p records begin a history, the first p + 1 none. It is 45 exactly
+    /// where record p completes the run too soon. A divergence goes with 22 alone.
     fn not_refused_at(
         &self,
         records: &[RecordRef<'_>],
-        number: u64,
         p: usize,
-        calls: u64,
+        [number, divergence, calls]: [u64; 3],
     ) -> Option<&'static str> {
         if !self.begins(&records[..p]) {
             return Some("refused too late");
@@ -84,8 +84,30 @@ impl<'a> Judge<'a> {
         if self.begins(&records[..p + 1]) {
             return Some("refused too early");
         }
+        if self.completed_too_soon(&records[..=p]) != (number == 45) {
+            return Some("completed too soon with another number, or 45 for something else");
+        }
+        if (divergence != 0) != (number == 22) {
+            return Some("a divergence without 22, or 22 without one");
+        }
         let called = u64::from(number != 31);
         (calls != p as u64 + called).then_some("refused with another count of calls")
+    }
+
+    /// Whether the last of these records completes the run while a step is left.
+    fn completed_too_soon(&self, records: &[RecordRef<'_>]) -> bool {
+        match records {
+            [before @ .., RecordRef::RunCompleted { .. }] => self.next_step(before).is_some(),
+            _ => false,
+        }
+    }
+
+    /// Step k, where these records are `RunStarted` and the boundaries of steps 0 to k - 1, k < m.
+    fn next_step(&self, records: &[RecordRef<'_>]) -> Option<&Step<'a>> {
+        // Each step before k has two records, so k follows from the count.
+        let k = records.len().saturating_sub(1) / 2;
+        let whole = records.len() == 1 + 2 * k && self.begins(records);
+        self.steps.get(k).filter(|_| whole)
     }
 
     fn begins(&self, records: &[RecordRef<'_>]) -> bool {
@@ -97,26 +119,22 @@ impl<'a> Judge<'a> {
     fn not_refused_at_the_end(
         &self,
         records: &[RecordRef<'_>],
-        number: u64,
         place: u64,
-        calls: u64,
+        numbers: [u64; 3],
     ) -> Option<&'static str> {
         let count = records.len() as u64;
-        if (number, place, calls) != (25, count, count + 1) {
+        if (place, numbers) != (count, [25, 0, count + 1]) {
             return Some("refused after the last record with another number, place or count");
         }
         if self.forms.iter().any(|form| form.is(records)) {
             return Some("a history is refused after its last record");
         }
-        // Each step before k has two records, so k follows from the count.
-        let k = records.len().saturating_sub(1) / 2;
-        let whole = records.len() == 1 + 2 * k && self.begins(records);
         let persistent = matches!(
-            self.steps.get(k),
+            self.next_step(records),
             Some(Step::Timer(TimerSpec::AtPersistentTime { .. }))
         );
         let barred = persistent && self.capability == ClockCapability::BootOnly;
-        (!whole || !barred).then_some("refused after the last record, and not barred")
+        (!barred).then_some("refused after the last record, and not barred")
     }
 
     /// The first of these boundaries at which an accepted pair hands over something else than

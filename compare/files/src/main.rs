@@ -23,7 +23,9 @@ mod resume;
 mod samples;
 mod small_scope;
 mod store;
+mod terminals;
 mod text;
+mod too_soon;
 #[allow(dead_code)]
 #[path = "../../src/values.rs"]
 mod values;

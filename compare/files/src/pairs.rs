@@ -89,7 +89,8 @@ pub fn with_body(random: &mut Random, kind: u8, most_body: usize) -> Item {
 }
 
 /// `RunStarted`, the boundaries of the first `stop` steps, then an ending: nothing, the next
-/// step's opener or a terminal record.
+/// step's opener or a terminal record, now and then with a record after it. Where a step is left, a run
+/// that completes does so too soon.
 pub fn history(
     random: &mut Random,
     steps: &[Step<'_>],
@@ -109,10 +110,23 @@ pub fn history(
         2 => {
             let kind = random.pick(&[7, 8]);
             items.push(with_body(random, kind, most_body));
+            if random.one_in(3) {
+                items.push(after_the_end(random, steps, stop));
+            }
         }
         _ => {}
     }
     items
+}
+
+/// A terminal record, the opener of the step that is left, or any record.
+fn after_the_end(random: &mut Random, steps: &[Step<'_>], stop: usize) -> Item {
+    match (random.below(4), steps.get(stop)) {
+        (0, _) => with_body(random, 7, 5),
+        (1, _) => with_body(random, 8, 5),
+        (2, Some(step)) => opener(random, step, stop as u32),
+        _ => any_item(random, 1 + 2 * stop),
+    }
 }
 
 /// One change to the list of records; most leave the file readable.

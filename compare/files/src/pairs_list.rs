@@ -10,10 +10,11 @@ use crate::random::Random;
 use crate::reader::{Entry, Format, Refused, Step, read_journal, read_plan};
 use crate::samples;
 use crate::text::items;
+use crate::too_soon;
 use crate::writing;
 
 const SEED: u64 = 2_026;
-const RUN: u64 = 7;
+pub const RUN: u64 = 7;
 /// Pairs at random are added until the list has so many bytes.
 const FILLED: usize = 59_500;
 
@@ -33,6 +34,11 @@ pub fn list() -> Vec<Bytes> {
     endings(&mut pairs, ClockCapability::Persistent, 0..=5);
     // A board with a boot clock only does not admit step 3.
     endings(&mut pairs, ClockCapability::BootOnly, 3..=3);
+    pairs.extend(
+        too_soon::stored()
+            .into_iter()
+            .map(|case| (case.journal, case.plan)),
+    );
     beyond(&mut pairs);
     barred(&mut pairs);
     one_wrong_record(&mut pairs);
@@ -55,7 +61,7 @@ pub fn list() -> Vec<Bytes> {
     pairs
 }
 
-fn effect(kind: u16, input: &'static [u8], input_crc: u32) -> Step<'static> {
+pub fn effect(kind: u16, input: &'static [u8], input_crc: u32) -> Step<'static> {
     let request = EffectRequest {
         kind: ActivityKind(kind),
         input_len: input.len() as u16,
@@ -75,7 +81,7 @@ fn steps() -> [Step<'static>; 5] {
     ]
 }
 
-fn entry(kind: u8, s: u32, body: &'static [u8]) -> Item {
+pub fn entry(kind: u8, s: u32, body: &'static [u8]) -> Item {
     let entry = Entry {
         kind,
         s,
@@ -85,7 +91,7 @@ fn entry(kind: u8, s: u32, body: &'static [u8]) -> Item {
     (entry, body)
 }
 
-fn opener(step: &Step<'_>, number: u32) -> Item {
+pub fn opener(step: &Step<'_>, number: u32) -> Item {
     let (mut entry, _) = writing::step_entry(step);
     entry.s = number;
     if entry.kind == 5 {
@@ -104,10 +110,19 @@ fn closer(step: &Step<'_>, number: u32) -> Item {
 }
 
 /// `RunStarted` and the boundaries before this step.
-fn before(steps: &[Step<'_>], stop: usize) -> Vec<Item> {
+pub fn before(steps: &[Step<'_>], stop: usize) -> Vec<Item> {
     let mut items = vec![entry(1, 0, &[8])];
     for (step, number) in steps[..stop].iter().zip(0..) {
         items.extend([opener(step, number), closer(step, number)]);
+    }
+    items
+}
+
+/// The same records without bodies, which take less text.
+pub fn bare(mut items: Vec<Item>) -> Vec<Item> {
+    for (entry, body) in &mut items {
+        entry.m -= body.len() as u64;
+        *body = &[];
     }
     items
 }
@@ -171,12 +186,12 @@ fn unreadable(pairs: &mut Vec<Bytes>) {
     }
 }
 
-/// Every ending at these stops.
+/// Every ending at these stops. At an odd stop the run completed, for a timer too soon; at an even one it failed.
 fn endings(pairs: &mut Vec<Bytes>, capability: ClockCapability, stops: RangeInclusive<usize>) {
     let steps = steps();
     for stop in stops {
         let before = before(&steps, stop);
-        let mut last = vec![entry(7 + (stop % 2) as u8, 0, &[6; 3])];
+        let mut last = vec![entry(8 - (stop % 2) as u8, 0, &[6; 3])];
         last.extend(steps.get(stop).map(|step| opener(step, stop as u32)));
         push(pairs, capability, &steps, &before);
         for last in last {
@@ -195,7 +210,7 @@ fn beyond(pairs: &mut Vec<Bytes>) {
         (&[effect], opener(&effect, 1)),
         (&[effect, boot, boot], entry(9, 3, &[])),
     ] {
-        let items = [&before(steps, steps.len())[..], &[last]].concat();
+        let items = [&bare(before(steps, steps.len()))[..], &[last]].concat();
         push(pairs, ClockCapability::BootOnly, steps, &items);
     }
 }
@@ -217,15 +232,16 @@ fn barred(pairs: &mut Vec<Bytes>) {
             pairs,
             ClockCapability::BootOnly,
             steps,
-            &before(steps, stop),
+            &bare(before(steps, stop)),
         );
     }
 }
 
 /// Every kind of record in the place of each record, after the last one and after the end.
 fn one_wrong_record(pairs: &mut Vec<Bytes>) {
-    let steps = &steps()[..2];
-    let mut whole = before(steps, 2);
+    let [_, boot, effect, ..] = steps();
+    let steps = &[effect, boot];
+    let mut whole = bare(before(steps, 2));
     whole.push(entry(7, 0, &[]));
     for place in 0..=whole.len() {
         for kind in 1..=9 {
@@ -255,7 +271,7 @@ fn wrong_fields(
     stop: usize,
 ) {
     let number = stop as u32;
-    let before = before(steps, stop);
+    let before = bare(before(steps, stop));
     let (right, _) = opener(&steps[stop], number);
     for entry in other_openers(right) {
         let items: &[Item] = &[(entry, &[])];

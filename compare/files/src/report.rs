@@ -41,18 +41,34 @@ pub fn same_pair(journal: &[u8], plan: &[u8], boundaries: impl Iterator<Item = u
     verdict
 }
 
-/// Compares the proved line with this one, and of line and words that they come whole or not at all.
+/// Compares the proved line with this one, the words of a run that was completed too soon with those that
+/// are owed, and of line and words that they come whole or not at all.
 fn same_texts(verdict: &Verdict, journal: &[u8], plan: &[u8]) {
     let line = whole(|text| proved::line(journal, plan, text));
     let words = whole(|text| proved::words(journal, plan, text));
     let rust = format!("{verdict}\n");
     match (line, words) {
         (None, None) => {}
-        (Some(Ok(line)), Some(Ok(_))) if line == rust.as_bytes() => {}
+        (Some(Ok(line)), Some(Ok(words)))
+            if line == rust.as_bytes()
+                && too_soon_words(verdict).is_none_or(|owed| words == owed.as_bytes()) => {}
         (line, words) => {
             let what = format!("Rust:   {rust:?}\nProved: {line:?}, {words:?}");
             differ_on_pair(&what, journal, plan);
         }
+    }
+}
+
+/// The words for 45. They name the step: the start is one record, and each step before has two.
+fn too_soon_words(verdict: &Verdict) -> Option<String> {
+    match *verdict {
+        Verdict::No {
+            number: 45, place, ..
+        } => Some(format!(
+            "Each step matches the plan: the run was completed at step {} of the plan, before its last",
+            place / 2
+        )),
+        _ => None,
     }
 }
 

@@ -1,6 +1,8 @@
 //! Every list of records over a small alphabet, with every small plan. The plain verdict is
 //! checked against the definition of histories, and the proved verdict against the plain one.
 
+use std::ops::RangeInclusive;
+
 use waymaker_core::{
     ActivityKind, ClockCapability, ClockKind, EffectRequest, EffectSeq, GateId, RecordRef, RunId,
     TimerSpec,
@@ -12,6 +14,7 @@ use crate::judge::Judge;
 use crate::reader::Step;
 use crate::report::{differ_on_pair, same_pair, same_verdict};
 use crate::resume::{Ending, Verdict, procedure};
+use crate::terminals::Terminals;
 use crate::writing;
 
 const RUN: RunId = RunId(7);
@@ -27,16 +30,20 @@ pub fn run(settings: &Settings) -> String {
     ];
     let alphabet = letters(&[0, 1, 2, 3, u32::MAX], true);
     let (mut followed, mut failures) = (0, Failures::default());
+    let mut terminals = Terminals::default();
     for_each_plan(&steps, |scope| {
         scope.follow(&alphabet);
         followed += scope.lists;
         failures.join(&scope.failures);
+        terminals.join(&scope.terminals);
     });
     failures.must_be_all();
+    terminals.must_be_all();
     format!(
-        "{whole} lists, every one of up to {} records; {followed} lists, longer where they begin a history, {}",
+        "{whole} lists, every one of up to {} records; {followed} lists, longer where they begin a history, {}; {}",
         settings.list_depth,
-        failures.told()
+        failures.told(),
+        terminals.told()
     )
 }
 
@@ -160,6 +167,7 @@ struct Scope {
     records: Vec<RecordRef<'static>>,
     lists: u64,
     failures: Failures,
+    terminals: Terminals,
 }
 
 impl Scope {
@@ -170,6 +178,7 @@ impl Scope {
             records: Vec::new(),
             lists: 0,
             failures: Failures::default(),
+            terminals: Terminals::default(),
         }
     }
 
@@ -186,13 +195,15 @@ impl Scope {
     }
 
     /// This list, and every longer one as long as it begins a history. Past the first record
-    /// that does not fit, a few more records are tried: they must change nothing.
+    /// that does not fit, a few more records are tried, and each where the run was completed too
+    /// soon: they must change nothing.
     fn follow(&mut self, alphabet: &[RecordRef<'static>]) {
         let verdict = self.check();
-        if let Verdict::No { place, .. } = verdict
+        if let Verdict::No { number, place, .. } = verdict
             && place < self.records.len() as u64
         {
-            for letter in &alphabet[..4] {
+            let tried = if number == 45 { alphabet.len() } else { 4 };
+            for letter in &alphabet[..tried] {
                 self.records.push(*letter);
                 if self.check() != verdict {
                     self.wrong("a record after the refused one changes the verdict");
@@ -221,24 +232,39 @@ impl Scope {
             self.wrong(contradiction);
         }
         self.failures.add(&self.records, &verdict);
+        let judge = &self.judge;
+        self.terminals
+            .add(judge.capability, &judge.steps, &self.records, &verdict);
         match verdict {
             Verdict::Ok { ending, stop, .. } => self.check_handovers(&verdict, ending, stop),
+            Verdict::No {
+                number: 45, place, ..
+            } if place + 1 == self.records.len() as u64 => drop(self.check_bytes(&verdict)),
             Verdict::No { .. } => same_verdict(&verdict, || self.journal(), &self.plan),
         }
         verdict
     }
 
-    /// Writes an accepted list as bytes, and checks the verdict and the handover of these.
-    fn check_handovers(&self, verdict: &Verdict, ending: Ending, stop: u64) {
+    fn boundaries(&self) -> RangeInclusive<u64> {
+        0..=self.judge.steps.len() as u64 + 1
+    }
+
+    /// Writes the list as bytes, and compares the verdict and the handovers of these.
+    fn check_bytes(&self, verdict: &Verdict) -> Vec<u8> {
         let journal = self.journal();
-        let boundaries = || 0..=self.judge.steps.len() as u64 + 1;
-        if same_pair(&journal, &self.plan, boundaries()) != *verdict {
+        if same_pair(&journal, &self.plan, self.boundaries()) != *verdict {
             self.wrong("its bytes have another verdict");
         }
+        journal
+    }
+
+    /// The same of an accepted list, and its handovers against the definition.
+    fn check_handovers(&self, verdict: &Verdict, ending: Ending, stop: u64) {
+        let journal = self.check_bytes(verdict);
         let pair = (&journal[..], &self.plan[..]);
-        let wrong = self
-            .judge
-            .wrong_handover(pair, &self.records, (ending, stop), boundaries());
+        let wrong =
+            self.judge
+                .wrong_handover(pair, &self.records, (ending, stop), self.boundaries());
         if let Some(boundary) = wrong {
             self.wrong(&format!("handover of {boundary}"));
         }

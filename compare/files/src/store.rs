@@ -9,6 +9,7 @@ use crate::damaged_list;
 use crate::failures::Failures;
 use crate::pairs_list;
 use crate::resume::{Handover, Verdict, handover, verdict};
+use crate::terminals::Terminals;
 
 /// The most bytes of a list.
 const LIMIT: usize = 60_000;
@@ -18,7 +19,7 @@ const READING: [u64; 18] = [
     1, 2, 3, 4, 6, 7, 8, 9, 11, 12, 13, 14, 15, 16, 17, 18, 44, 19,
 ];
 /// The numbers, each with its divergence, that a readable pair can be refused with.
-const REFUSALS: [(u64, u64); 10] = [
+const REFUSALS: [(u64, u64); 11] = [
     (22, 1),
     (22, 2),
     (22, 4),
@@ -29,6 +30,7 @@ const REFUSALS: [(u64, u64); 10] = [
     (24, 0),
     (25, 0),
     (31, 0),
+    (45, 0),
 ];
 
 /// The lines of the first pairs, as document 01 prints them and 02 (request 10) ends them.
@@ -83,10 +85,12 @@ fn damaged() -> (String, String) {
 fn verdicts() -> (String, String) {
     let (mut pairs, mut answers) = (String::new(), String::new());
     let (mut refusals, mut failures) = (BTreeSet::new(), Failures::default());
+    let mut terminals = Terminals::default();
     for (journal, plan) in pairs_list::list() {
         pairs += &pairs_list::lines(&journal, &plan);
         let verdict = verdict(&journal, &plan);
         failures.add_journal(&journal, &verdict);
+        terminals.add_pair(&journal, &plan, &verdict);
         if let Verdict::No {
             number, divergence, ..
         } = verdict
@@ -102,6 +106,7 @@ fn verdicts() -> (String, String) {
         assert!(refusals.contains(refusal), "no {refusal:?}");
     }
     failures.must_be_all();
+    terminals.must_be_all();
     let lines = answers.lines().step_by(1 + BOUNDARIES as usize);
     assert!(lines.take(PRINTED.len()).eq(PRINTED), "01's lines");
     (pairs, answers)

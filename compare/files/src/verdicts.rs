@@ -13,8 +13,10 @@ use crate::pairs_list;
 use crate::random::Random;
 use crate::reader::{MOST_BYTES, Step, read_journal, read_plan};
 use crate::report::{differ_on_pair, same_pair};
-use crate::resume::Verdict;
+use crate::resume::{Handover, Verdict, handover};
 use crate::samples;
+use crate::terminals::Terminals;
+use crate::too_soon::{self, Case};
 use crate::writing;
 
 /// Pairs whose plan has up to so many steps are also checked against the definition.
@@ -25,6 +27,9 @@ pub fn run(settings: &Settings) -> String {
     let mut compared = Compared::default();
     for (journal, plan) in pairs_list::list() {
         compared.pair(&journal, &plan);
+    }
+    for case in too_soon::cases() {
+        compared.owed(&case);
     }
     for _ in 0..settings.pairs {
         let steps = random.below(9) as usize;
@@ -50,6 +55,7 @@ struct Compared {
     /// How often each answer was given: the ending's word, or number and divergence.
     answers: BTreeMap<String, u64>,
     failures: Failures,
+    terminals: Terminals,
 }
 
 impl Compared {
@@ -66,7 +72,22 @@ impl Compared {
         self.pair(&journal, &plan);
     }
 
-    fn pair(&mut self, journal: &[u8], plan: &[u8]) {
+    /// The pair; its line is the one that is written out, and where that refuses it, no boundary has bytes.
+    fn owed(&mut self, case: &Case) {
+        let (journal, plan) = (&case.journal[..], &case.plan[..]);
+        let said = self.pair(journal, plan).to_string();
+        if said != case.line {
+            let what = format!("Owed:   {}\nRust:   {said}", case.line);
+            differ_on_pair(&what, journal, plan);
+        }
+        if let Some(number) = case.refused()
+            && (0..5).any(|at| handover(journal, plan, at) != Handover::Refused(number))
+        {
+            differ_on_pair("a handover of a refused pair", journal, plan);
+        }
+    }
+
+    fn pair(&mut self, journal: &[u8], plan: &[u8]) -> Verdict {
         let steps = read_plan(plan).map_or(0, |plan| plan.count());
         let boundaries = || (0..=steps + 1).chain([1 << 32, u64::MAX]);
         let verdict = same_pair(journal, plan, boundaries());
@@ -74,9 +95,11 @@ impl Compared {
         self.handovers += steps + 4;
         *self.answers.entry(answer(&verdict)).or_default() += 1;
         self.count_failed(journal, plan, &verdict);
+        self.terminals.add_pair(journal, plan, &verdict);
         if steps <= JUDGED {
             self.judge(journal, plan, &verdict, boundaries());
         }
+        verdict
     }
 
     /// Checks the count of failed outcomes of an accepted pair: all its records are accepted.
@@ -122,7 +145,7 @@ impl Compared {
         for (answer, pairs) in &self.answers {
             write!(told, " {answer}: {pairs}").expect("a string takes all text");
         }
-        told + "; " + &self.failures.told()
+        told + "; " + &self.failures.told() + "; " + &self.terminals.told()
     }
 }
 
