@@ -15,7 +15,8 @@ use Rattle.lines.specs.declared.Line.{Line}
 use Rattle.lines.specs.Line.{lineOf, holding, Holds}
 use Rattle.endings.specs.declared.Ending.{Ending}
 use Rattle.endings.specs.Endings.{ascii, endingNumber}
-use Rattle.lines.specs.Words.{Row, table, otherWords, isOf, wordsIn, filled, endingDetail, tellsFailed, failedWords, endingWords, detailOf, shownFor, wordsOf}
+use Rattle.lines.specs.Words.{Row, table, otherWords, isOf, wordsIn, filled, detailOf, shownFor, wordsOf}
+use Rattle.lines.specs.Words.{endingDetail, tellsFailed, failedWords, endingWords}
 
 pub held-len : (line : Line) (text : List ℕ) → Holds line text → line .len ≡ length text
 held-len line text h = ap (λ (l : Line). l .len) (h .whole)
