@@ -1,4 +1,4 @@
-//! Pairs of a journal and a plan: histories, histories with damage, and damaged files.
+//! Pairs of a journal and a plan: histories, runs that were completed too soon, both with damage, and damaged files.
 
 use waymaker_core::{ActivityKind, ClockCapability, EffectRequest, TimerSpec};
 
@@ -192,8 +192,8 @@ pub fn journal_of(run: u64, items: &[Item]) -> File {
     file
 }
 
-/// A plan of so many steps, now and then with a timer of 0, and one of its histories, with some damage
-/// or none.
+/// A plan of so many steps, now and then with a timer of 0, and one of its histories or a run that was
+/// completed too soon, with some damage or none.
 pub struct Pair {
     pub capability: ClockCapability,
     pub steps: Vec<Step<'static>>,

@@ -186,7 +186,8 @@ fn unreadable(pairs: &mut Vec<Bytes>) {
     }
 }
 
-/// Every ending at these stops. At an odd stop the run completed, for a timer too soon; at an even one it failed.
+/// Due or done, open and a terminal record at these stops. At an even stop the run failed; at 1 and 3, before a
+/// timer, it completed too soon; at 5 it completed after the last step.
 fn endings(pairs: &mut Vec<Bytes>, capability: ClockCapability, stops: RangeInclusive<usize>) {
     let steps = steps();
     for stop in stops {

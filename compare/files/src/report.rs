@@ -64,11 +64,23 @@ fn too_soon_words(verdict: &Verdict) -> Option<String> {
     match *verdict {
         Verdict::No {
             number: 45, place, ..
-        } => Some(format!(
-            "Each step matches the plan: the run was completed at step {} of the plan, before its last",
-            place / 2
-        )),
+        } => Some(completed_at(place / 2)),
         _ => None,
+    }
+}
+
+fn completed_at(step: u64) -> String {
+    format!(
+        "Each step matches the plan: the run was completed at step {step} of the plan, before its last"
+    )
+}
+
+/// Compares the proved words with those of a run that was completed at this step.
+pub fn same_step(step: u64, journal: &[u8], plan: &[u8]) {
+    let owed = completed_at(step);
+    let words = whole(|text| proved::words(journal, plan, text));
+    if words.is_some_and(|words| words.as_deref() != Ok(owed.as_bytes())) {
+        differ_on_pair(&format!("Owed: {owed}"), journal, plan);
     }
 }
 

@@ -21,6 +21,8 @@ pub struct Case {
     pub journal: Vec<u8>,
     pub plan: Vec<u8>,
     pub line: String,
+    /// The step at which the run was completed too soon.
+    pub step: Option<u64>,
 }
 
 impl Case {
@@ -31,7 +33,7 @@ impl Case {
     }
 }
 
-/// A journal, a plan and its line as document 01 writes them. One step: completed twice, completed once,
+/// A journal, a plan and its line in document 01's notation. One step: completed twice, completed once,
 /// failed, failed and completed; a persistent timer on a board that has a boot clock only: completed,
 /// failed; no step: failed, completed, completed twice.
 const PRINTED: [(&str, &str, &str); 9] = [
@@ -82,7 +84,7 @@ const PRINTED: [(&str, &str, &str); 9] = [
     ),
 ];
 
-/// Every case: those that are printed, all of plans of up to three steps, and some of a long plan.
+/// Every case: those that are printed, all of plans of up to three steps, and some of long plans.
 pub fn cases() -> Vec<Case> {
     let mut made = Made::new(true);
     let mut plans = vec![Vec::new()];
@@ -95,9 +97,18 @@ pub fn cases() -> Vec<Case> {
         plans = plans.iter().flat_map(|plan| longer(plan)).collect();
     }
     let [effect, boot, _] = steps();
-    let long: Vec<Step> = [effect, boot].into_iter().cycle().take(150).collect();
+    let longest: Vec<Step> = [effect, boot].into_iter().cycle().take(512).collect();
     for stop in [40, 149, 150] {
-        made.ended(ClockCapability::BootOnly, &long, stop, &[COMPLETED]);
+        made.ended(
+            ClockCapability::BootOnly,
+            &longest[..150],
+            stop,
+            &[COMPLETED],
+        );
+    }
+    // At stop 511 the terminal record is the last that a journal may have.
+    for stop in [127, 128, 255, 256, 511] {
+        made.ended(ClockCapability::BootOnly, &longest, stop, &[]);
     }
     made.cases
 }
@@ -155,6 +166,7 @@ impl Made {
             journal: bytes(journal),
             plan: bytes(plan),
             line: line.to_string(),
+            step: line.starts_with("no 45").then_some(0),
         };
         Made {
             cases: PRINTED.iter().map(case).collect(),
@@ -192,6 +204,7 @@ impl Made {
                 let journal = journal_of(RUN, &items).bytes();
                 self.cases.push(Case {
                     line: owed(&journal, stop, too_soon, next.is_some()),
+                    step: too_soon.then_some(stop as u64),
                     journal,
                     plan: writing::plan(capability, steps).bytes(),
                 });

@@ -12,7 +12,7 @@ use crate::pairs::{Pair, journal_of};
 use crate::pairs_list;
 use crate::random::Random;
 use crate::reader::{MOST_BYTES, Step, read_journal, read_plan};
-use crate::report::{differ_on_pair, same_pair};
+use crate::report::{differ_on_pair, same_pair, same_step};
 use crate::resume::{Handover, Verdict, handover};
 use crate::samples;
 use crate::terminals::Terminals;
@@ -28,7 +28,7 @@ pub fn run(settings: &Settings) -> String {
     for (journal, plan) in pairs_list::list() {
         compared.pair(&journal, &plan);
     }
-    for case in too_soon::cases() {
+    for case in too_soon::cases().into_iter().chain(too_soon::stored()) {
         compared.owed(&case);
     }
     for _ in 0..settings.pairs {
@@ -79,6 +79,9 @@ impl Compared {
         if said != case.line {
             let what = format!("Owed:   {}\nRust:   {said}", case.line);
             differ_on_pair(&what, journal, plan);
+        }
+        if let Some(step) = case.step {
+            same_step(step, journal, plan);
         }
         if let Some(number) = case.refused()
             && (0..5).any(|at| handover(journal, plan, at) != Handover::Refused(number))

@@ -7,7 +7,7 @@ use lib.Dec.{eqb}
 use Rattle.records.specs.Records.{among, openerKinds}
 use Rattle.histories.specs.declared.Answer.{Answer}
 use Rattle.histories.specs.declared.Answer.the-variants as Answer
-use Rattle.histories.specs.Promise.{stepAt}
+use Rattle.histories.specs.StepAt.{stepAt}
 use Rattle.endings.specs.declared.Ending.{Ending}
 use Rattle.endings.specs.declared.Ending.the-variants as Ending
 use Rattle.endings.specs.Endings.{ascii, endingNumber, stillToRun}
@@ -116,7 +116,7 @@ abbrev pub endingWords : Ending → ℕ → ℕ → ℕ → List ℕ
 endingWords ending stop kind failed =
     filled stop (ascii (wordsIn table 0 (endingDetail ending kind))) ++ cond (tellsFailed ending failed) (failedWords failed) []
 
--- what to do at which step, or which line of the checklist failed and at which record
+-- what to do at which step, or which line of the checklist failed and where
 unfoldable pub wordsOf : Answer → ℕ → List ℕ
 wordsOf (Answer.Ok ending stop records calls failed) kind = endingWords ending stop kind failed
 wordsOf (Answer.No number place divergence calls) kind =
