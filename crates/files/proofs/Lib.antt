@@ -8,6 +8,7 @@ pub mod Passing
 pub mod Laws
 pub mod Bodies
 pub mod Canonical
+pub mod Numbered
 pub mod ReadBy
 pub mod ByTable
 pub mod ZeroTimers

@@ -8,7 +8,7 @@ use Rattle.histories.specs.declared.Answer.{Answer}
 use Rattle.lines.specs.Line.{decimal}
 use Rattle.endings.specs.Endings.{ascii}
 use Rattle.lines.specs.Words.{wordsOf}
-use Rattle.lines.specs.Telling.{tellingKind}
+use Rattle.lines.specs.Telling.{tellingOf}
 use Rattle.resume.specs.Verdict.{verdictRule}
 
 -- how many bytes are written, and what the buffer is then: the whole text and what stood beyond it, or nothing
@@ -22,7 +22,7 @@ pub record Sized (text : List ℕ) : Type 0 where
 
 -- the words of an answer on these files
 abbrev pub answerWords : List ℕ → List ℕ → Answer → List ℕ
-answerWords journal plan answer = wordsOf answer (tellingKind journal plan answer)
+answerWords journal plan answer = wordsOf answer (tellingOf journal plan answer)
 
 -- the words of the verdict on these files
 abbrev pub wordsFor : List ℕ → List ℕ → List ℕ

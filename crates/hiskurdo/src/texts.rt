@@ -52,8 +52,8 @@ pub extern "C" fn hiskurdo_verdict_words(journal: &[u8], plan: &[u8], text: &mut
     ensures { λ r. ⌜ Sized (wordsFor (now (journal .entry)) (now (plan .entry))) ⌝ }
 {
     let answer = resume::verdict(journal, plan);
-    let kind = lines::telling::telling_kind(journal, plan, answer);
-    lend_line(text, lines::words::words_of(answer, kind))
+    let telling = lines::telling::telling(journal, plan, answer);
+    lend_line(text, lines::words::words_of(answer, telling))
 }
 
 // The version in one number, as the programs print it in text.

@@ -8,8 +8,9 @@ use lib.ListN.{length, take, getD, set, length-set}
 use lib.Seq.{paste, paste-zero, paste-suc, take-paste, take-length, take-suc-set}
 use Rattle.histories.specs.declared.Answer.{Answer}
 use Rattle.lines.specs.declared.Line.{Line}
+use Rattle.lines.specs.declared.words.Telling.{Telling}
 use Rattle.lines.specs.Line.{Holds}
-use Rattle.lines.specs.Telling.{tellingKind}
+use Rattle.lines.specs.Telling.{tellingOf}
 use Rattle.lines.proofs.Laws.{held-len, held-front}
 use Rattle.file_bytes.specs.Names.{clean}
 use Rattle.index.specs.Row.{cleaned, ended, answerFields, fields}
@@ -74,7 +75,7 @@ module _ (a b c d x y z : List ℕ) (i j k m last₁ last₂ last₃ : ℕ) wher
   three f g h = rw (h .front, g .front, f .front, append-assoc, append-assoc, append-assoc)
 
 -- the name's field, and after it the answer's
-module _ (name journal plan room named last : List ℕ) (at end kind : ℕ) (answer : Answer) where
-  pub row-of : Fielded room 0 (cleaned name) 9 named at → take end last ≡ take at named ++ answerFields answer kind →
-      kind ≡ tellingKind journal plan answer → take end last ≡ fields name journal plan answer
-  row-of f g k = rw (g, f .front, k)
+module _ (name journal plan room named last : List ℕ) (at end : ℕ) (telling : Telling) (answer : Answer) where
+  pub row-of : Fielded room 0 (cleaned name) 9 named at → take end last ≡ take at named ++ answerFields answer telling →
+      telling ≡ tellingOf journal plan answer → take end last ≡ fields name journal plan answer
+  row-of f g t = rw (g, f .front, t)

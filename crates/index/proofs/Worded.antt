@@ -37,7 +37,11 @@ Worded (Answer.No number place divergence calls) kind = T (hasRow table number (
 
 ending-worded : (ending : Ending) (kind : ℕ) → T (hasRow table 0 (endingDetail ending kind))
 ending-worded Ending.Unstarted kind = tt
-ending-worded Ending.Due kind = tt
+ending-worded Ending.Due kind = either (eqb kind 9)
+  where
+    either : (gate : Bool) → T (hasRow table 0 (cond gate 7 1))
+    either true = tt
+    either false = tt
 ending-worded Ending.Done kind = tt
 ending-worded Ending.Open kind = either (eqb kind 5)
   where

@@ -3,9 +3,10 @@ use Prim.Native.Nat.{ℕ, _+_, _-_}
 use mathlib.Core.List.{List, [], _∷_, _++_}
 use lib.ListN.{length, take}
 use Rattle.histories.specs.declared.Answer.{Answer}
+use Rattle.lines.specs.declared.words.Telling.{Telling}
 use Rattle.lines.specs.Line.{lineOf}
 use Rattle.lines.specs.Words.{wordsOf, resumeOf}
-use Rattle.lines.specs.Telling.{tellingKind}
+use Rattle.lines.specs.Telling.{tellingOf}
 use Rattle.file_bytes.specs.Names.{clean}
 use Rattle.resume.specs.Verdict.{verdictRule}
 
@@ -23,11 +24,11 @@ abbrev pub printed : Answer → List ℕ
 printed answer = take (length (lineOf answer) - 1) (lineOf answer)
 
 -- what follows the name: a tab between two fields, a line feed last
-abbrev pub answerFields : Answer → ℕ → List ℕ
-answerFields answer kind = ended (resumeOf answer) 9 ++ (ended (printed answer) 9 ++ ended (wordsOf answer kind) 10)
+abbrev pub answerFields : Answer → Telling → List ℕ
+answerFields answer telling = ended (resumeOf answer) 9 ++ (ended (printed answer) 9 ++ ended (wordsOf answer telling) 10)
 
 abbrev pub fields : List ℕ → List ℕ → List ℕ → Answer → List ℕ
-fields name journal plan answer = ended (cleaned name) 9 ++ answerFields answer (tellingKind journal plan answer)
+fields name journal plan answer = ended (cleaned name) 9 ++ answerFields answer (tellingOf journal plan answer)
 
 unfoldable pub rowOf : List ℕ → List ℕ → List ℕ → List ℕ
 rowOf name journal plan = fields name journal plan (verdictRule journal plan)

@@ -12,6 +12,7 @@ ghost use Rattle.index.specs.Row.{cleaned, printed, answerFields, rowOf}
 ghost use Rattle.index.specs.Private.{Fielded};
 use histories::Answer;
 use lines::Line;
+use lines::words::Telling;
 
 // A field at a place of the row, and the byte that ends it.
 fn field(room: &mut [u8], at: usize, text: &[u8], last: u8) -> usize
@@ -72,24 +73,24 @@ fn verdict_field(room: &mut [u8], at: usize, answer: Answer) -> usize
     line_field(room, at, line, line.len - 1, b'\t')
 }
 
-fn words_field(room: &mut [u8], at: usize, answer: Answer, kind: u8) -> usize
+fn words_field(room: &mut [u8], at: usize, answer: Answer, telling: Telling) -> usize
     requires { ⌜ at + 129 ≤ length (now room) ⌝ }
-    ensures { λ r. ⌜ Fielded (now (room .entry)) at (wordsOf answer kind) 10 (now (room .exit)) r ⌝ }
+    ensures { λ r. ⌜ Fielded (now (room .entry)) at (wordsOf answer telling) 10 (now (room .exit)) r ⌝ }
     ensures { λ r. ⌜ r ≤ at + 129 ⌝ }
 {
-    let line = lines::words::words_of(answer, kind);
+    let line = lines::words::words_of(answer, telling);
     line_field(room, at, line, line.len, b'\n')
 }
 
 // The fields after the name.
-fn answer_fields(room: &mut [u8], at: usize, answer: Answer, kind: u8) -> usize
+fn answer_fields(room: &mut [u8], at: usize, answer: Answer, telling: Telling) -> usize
     requires { ⌜ at + 387 ≤ length (now room) ⌝ }
-    ensures { λ r. ⌜ take r (now (room .exit)) ≡ take at (now (room .entry)) ++ answerFields answer kind ⌝ }
+    ensures { λ r. ⌜ take r (now (room .exit)) ≡ take at (now (room .entry)) ++ answerFields answer telling ⌝ }
     ensures { λ r. ⌜ Counts r (now (room .exit)) ⌝ }
 {
     let second = resume_field(room, at, answer);
     let third = verdict_field(room, second, answer);
-    words_field(room, third, answer, kind)
+    words_field(room, third, answer, telling)
 }
 
 // The row of a folder with these two files, at the start of room.
@@ -100,7 +101,7 @@ pub(crate) fn row(name: &[u8], journal: &[u8], plan: &[u8], room: &mut [u8]) -> 
     ensures { λ r. ⌜ Counts r (now (room .exit)) ⌝ }
 {
     let answer = resume::verdict(journal, plan);
-    let kind = lines::telling::telling_kind(journal, plan, answer);
+    let telling = lines::telling::telling(journal, plan, answer);
     let at = name_field(room, name);
-    answer_fields(room, at, answer, kind)
+    answer_fields(room, at, answer, telling)
 }

@@ -9,13 +9,17 @@ use lib.Dec.{eqb}
 use lib.ListN.{length, replicate, take, length-append}
 use lib.Seq.{take-append-le}
 use Rattle.files.proofs.Checks.{both}
+use Rattle.files.specs.declared.Entry.{Entry}
+use Rattle.files.specs.Kinds.{entryIn, kindIn}
 use Rattle.histories.specs.declared.Answer.{Answer}
 use Rattle.histories.specs.declared.Answer.the-variants as Answer
 use Rattle.lines.specs.declared.Line.{Line}
+use Rattle.lines.specs.declared.words.Telling.{Telling}
 use Rattle.lines.specs.Line.{lineOf, holding, Holds}
 use Rattle.endings.specs.declared.Ending.{Ending}
 use Rattle.endings.specs.Endings.{ascii, endingNumber}
-use Rattle.lines.specs.Words.{Row, table, otherWords, isOf, wordsIn, filled, detailOf, shownFor, wordsOf}
+use Rattle.lines.specs.Words.{Row, table, otherWords, isOf, wordsIn, filled, detailOf, wordsOf}
+use Rattle.lines.specs.Telling.{endingShown}
 use Rattle.lines.specs.Words.{endingDetail, tellsFailed, failedWords, endingWords}
 
 pub held-len : (line : Line) (text : List ℕ) → Holds line text → line .len ≡ length text
@@ -58,13 +62,15 @@ begun-in (r ∷ rows) number detail h =
 table-some : (n number detail : ℕ) → 1 ≤ length (filled n (ascii (wordsIn table number detail)))
 table-some n number detail = filled-some n (ascii (wordsIn table number detail)) (begun-in table number detail refl)
 
-pub words-some : (answer : Answer) (kind : ℕ) → 1 ≤ length (wordsOf answer kind)
+pub words-some : (answer : Answer) (telling : Telling) → 1 ≤ length (wordsOf answer telling)
 unfolding wordsOf
-words-some (Answer.Ok ending stop records calls failed) kind =
-    let words = filled stop (ascii (wordsIn table 0 (endingDetail ending kind))) in
+words-some (Answer.Ok ending stop records calls failed) telling =
+    let detail = endingDetail ending (telling .kind) in
+    let words = filled (telling .number) (ascii (wordsIn table 0 detail)) in
     let told = cond (tellsFailed ending failed) (failedWords failed) [] in
-    omega (arith, table-some stop 0 (endingDetail ending kind), length-append words told)
-words-some (Answer.No number place divergence calls) kind = table-some (shownFor number place) number (detailOf number place divergence kind)
+    omega (arith, table-some (telling .number) 0 detail, length-append words told)
+words-some (Answer.No number place divergence calls) telling =
+    table-some (telling .number) number (detailOf number place divergence (telling .kind))
 
 -- whether the failed steps are told, by the ending's number
 pub tells-by : (ending : Ending) (failed n : ℕ) (b : Bool) → n ≡ endingNumber ending → (eqb n 2 || not (eqb failed 0)) ≡ b →
@@ -72,12 +78,19 @@ pub tells-by : (ending : Ending) (failed n : ℕ) (b : Bool) → n ≡ endingNum
 tells-by ending failed n b e h = sym (ap (λ (k : ℕ). eqb k 2 || not (eqb failed 0)) e) ∙ h
 
 -- the words of an ending, with the failed steps or without
-pub told-failed : (ending : Ending) (stop kind failed : ℕ) {detail : ℕ} {line : Line} → tellsFailed ending failed ≡ true →
-    detail ≡ endingDetail ending kind → Holds line (filled stop (ascii (wordsIn table 0 detail)) ++ failedWords failed) →
-    Holds line (endingWords ending stop kind failed)
-told-failed ending stop kind failed b e h = rw (b, sym e) h
+pub told-failed : (ending : Ending) (n kind failed : ℕ) {detail : ℕ} {line : Line} → tellsFailed ending failed ≡ true →
+    detail ≡ endingDetail ending kind → Holds line (filled n (ascii (wordsIn table 0 detail)) ++ failedWords failed) →
+    Holds line (endingWords ending n kind failed)
+told-failed ending n kind failed b e h = rw (b, sym e) h
 
-pub untold-failed : (ending : Ending) (stop kind failed : ℕ) {detail : ℕ} {line : Line} → tellsFailed ending failed ≡ false →
-    detail ≡ endingDetail ending kind → Holds line (filled stop (ascii (wordsIn table 0 detail))) →
-    Holds line (endingWords ending stop kind failed)
-untold-failed ending stop kind failed b e h = rw (b, sym e, append-nil) h
+pub untold-failed : (ending : Ending) (n kind failed : ℕ) {detail : ℕ} {line : Line} → tellsFailed ending failed ≡ false →
+    detail ≡ endingDetail ending kind → Holds line (filled n (ascii (wordsIn table 0 detail))) →
+    Holds line (endingWords ending n kind failed)
+untold-failed ending n kind failed b e h = rw (b, sym e, append-nil) h
+
+-- what an ending shows, by the ending's number and the plan's entry at the stop
+pub shown-by : (plan : List ℕ) (ending : Ending) (stop : ℕ) (e : Entry) (n : ℕ) (b : Bool) → e ≡ entryIn plan stop → n ≡ endingNumber ending →
+    (eqb n 1 && eqb (e .kind) 9) ≡ b → endingShown plan ending stop ≡ cond b (e .a) stop
+shown-by plan ending stop e n b read numbered test =
+    ap (λ (m : ℕ). cond (eqb m 1 && eqb (kindIn plan stop) 9) (entryIn plan stop .a) stop) (sym numbered) ∙
+    ap (λ (x : Entry). cond (eqb n 1 && eqb (x .kind) 9) (x .a) stop) (sym read) ∙ ap (λ (t : Bool). cond t (e .a) stop) test

@@ -3,3 +3,4 @@ mod Written
 mod Right
 mod Table
 pub mod Laws
+pub mod ShownStep

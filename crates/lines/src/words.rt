@@ -6,11 +6,17 @@ ghost use lib.ListN.{length, drop};
 ghost use Rattle.endings.specs.Endings.{ascii, stillToRun};
 ghost use Rattle.lines.specs.Line.{Holds};
 ghost use Rattle.lines.specs.Writing.{written};
-ghost use Rattle.lines.specs.Words.{table, wordsIn, filled, shown, endingDetail, endingWords, detailOf, shownFor, wordsOf, resumeOf};
+ghost use Rattle.lines.specs.Words.{table, wordsIn, filled, shown, endingDetail, endingWords, detailOf, wordsOf, resumeOf};
 ghost use Rattle.lines.specs.Rows.{coded, afterLine, ofLine, keyed, wordsAt};
 use crate::Line;
 use endings::Ending;
 use histories::Answer;
+
+// What the words of an answer depend on beside it: the kind of one entry, and the number that they show.
+pub struct Telling {
+    pub kind: u8,
+    pub number: u64,
+}
 
 // Where the next line begins, or the end.
 fn next_line(text: &[u8], from: usize) -> usize
@@ -107,7 +113,7 @@ fn worded(text: &[u8], number: u64, detail: u64, n: u64) -> Line
     }
 }
 
-// A line of the table: the number (0 of an ending), the detail, the words; `#` stands for the step or the place.
+// A line of the table: the number (0 of an ending), the detail, the words; `#` stands for the number that is told.
 fn said(number: u64, detail: u64, n: u64) -> Line
     ensures { λ r. ⌜ Holds r (filled n (ascii (wordsIn table number detail))) ⌝ }
 {
@@ -115,11 +121,12 @@ fn said(number: u64, detail: u64, n: u64) -> Line
         b"\
         00 0 Nothing to resume: the run was never started\n\
         00 1 Start step #\n\
-        00 2 Nothing left to do: every step has an outcome\n\
+        00 2 Nothing left to do: every step has its outcome or marker\n\
         00 3 Deliver step # again: it was begun and has no outcome\n\
-        00 4 The run completed; steps with an outcome: #\n\
+        00 4 The run completed; whole steps: #\n\
         00 5 Arm the timer of step # again: it was armed and has not fired\n\
-        00 6 The run failed; steps with an outcome: #\n\
+        00 6 The run failed; whole steps: #\n\
+        00 7 Write the marker of gate #, with the version in the plan\n\
         01 0 Journal: missing, unreadable or under 16 bytes\n\
         02 0 Journal: over 32,768 bytes\n\
         03 0 Journal: not a journal file\n\
@@ -134,12 +141,13 @@ fn said(number: u64, detail: u64, n: u64) -> Line
         14 0 Plan: more than 1,024 steps\n\
         15 0 Plan: it does not say which clocks the board has\n\
         16 0 Plan: cut short or grown, its length is not what its header says\n\
-        17 0 Plan: entry # is neither an effect nor a timer\n\
+        17 0 Plan: entry # is no effect, no timer and no gate\n\
         18 0 Plan: entry # has a field that a plan may not have\n\
         19 0 Plan: the inputs' lengths do not sum to the header's\n\
         22 1 Steps carry consecutive numbers: record # has another number (a dispense lost or doubled)\n\
         22 2 Each step matches the plan: record # has another activity\n\
         22 4 Each step matches the plan: record # is of another kind (or a step before it was lost or doubled)\n\
+        22 5 Each step matches the plan: record # is the marker of another gate or version\n\
         22 6 Each step matches the plan: record # has another clock or deadline\n\
         22 8 Each step matches the plan: record # has another input length\n\
         22 9 Each step matches the plan: record # has the same input length, another CRC\n\
@@ -159,13 +167,13 @@ fn said(number: u64, detail: u64, n: u64) -> Line
     )
 }
 
-// What tells apart the words of one ending: the kind of the open step, or of the record that ended the run.
+// What tells apart the words of one ending: the kind of the step at the stop, or of the record that ended the run.
 fn ending_detail(ending: Ending, kind: u8) -> u64
     ensures { λ r. ⌜ r ≡ endingDetail ending kind ⌝ }
 {
     match ending {
         Ending::Unstarted => 0,
-        Ending::Due => 1,
+        Ending::Due => { if kind == 9 { 7 } else { 1 } }
         Ending::Done => 2,
         Ending::Open => { if kind == 5 { 5 } else { 3 } }
         Ending::Finished => { if kind == 8 { 6 } else { 4 } }
@@ -190,27 +198,20 @@ fn detail_of(number: u64, place: u64, divergence: u64, kind: u8) -> u64
     if kind == 9 { 1 } else { 0 }
 }
 
-// What `#` stands for in a refusal: the place; for 45 the step, as the start is one record and each step before has two.
-fn shown_for(number: u64, place: u64) -> u64
-    ensures { λ r. ⌜ r ≡ shownFor number place ⌝ }
-{
-    if number == 45 { place / 2 } else { place }
-}
-
 // What an ending means, and how many steps failed: where one did, and of a run that is done in any case.
-fn ending_words(ending: Ending, stop: u64, kind: u8, failed: u64) -> Line
-    ensures { λ r. ⌜ Holds r (endingWords ending stop kind failed) ⌝ }
+fn ending_words(ending: Ending, n: u64, kind: u8, failed: u64) -> Line
+    ensures { λ r. ⌜ Holds r (endingWords ending n kind failed) ⌝ }
 {
-    let line = said(0, ending_detail(ending, kind), stop);
+    let line = said(0, ending_detail(ending, kind), n);
     if (ending.number() == 2) | (failed != 0) {
         return crate::number(crate::write(line, b"; failed steps: "), failed);
     }
     line
 }
 
-// What an answer means; kind is that of the entry which tells apart the words of one answer.
-pub fn words_of(answer: Answer, kind: u8) -> Line
-    ensures { λ r. ⌜ Holds r (wordsOf answer kind) ⌝ }
+// What an answer means, with what `telling` gives for it.
+pub fn words_of(answer: Answer, telling: Telling) -> Line
+    ensures { λ r. ⌜ Holds r (wordsOf answer telling) ⌝ }
 {
     match answer {
         Answer::Ok {
@@ -219,7 +220,7 @@ pub fn words_of(answer: Answer, kind: u8) -> Line
             records,
             calls,
             failed,
-        } => ending_words(ending, stop, kind, failed),
+        } => ending_words(ending, telling.number, telling.kind, failed),
         Answer::No {
             number,
             place,
@@ -227,8 +228,8 @@ pub fn words_of(answer: Answer, kind: u8) -> Line
             calls,
         } => said(
             number,
-            detail_of(number, place, divergence, kind),
-            shown_for(number, place),
+            detail_of(number, place, divergence, telling.kind),
+            telling.number,
         ),
     }
 }

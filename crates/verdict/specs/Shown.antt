@@ -1,6 +1,7 @@
 -- 01's own lines, from the files' bytes to the printed text: two of the starred examples, and the worked pair, each with the last 0
 -- that 02 adds ("Failed steps counted in the cursor"). Then the worked pair with an outcome, which fails or not; with another
--- recorded input: 02, "Length or CRC"; and with the end of its run: 02, "Completed too soon".
+-- recorded input: 02, "Length or CRC"; with the end of its run: 02, "Completed too soon"; and a plan of one gate: 02, "Gates in the
+-- plan".
 use Prim.Native.Nat.{ℕ}
 use Prim.Native.String.{String}
 use mathlib.Core.List.{List, [], _∷_, _++_}
@@ -54,6 +55,17 @@ recordedWith len crc = workedFront 2 ++ (2 ∷ 0 ∷ 5 ∷ zeros 5) ++ (len ∷ 
 abbrev workedPlan : List ℕ
 workedPlan = (2 ∷ 0 ∷ 1 ∷ zeros 13) ++ (2 ∷ 0 ∷ 5 ∷ zeros 21)
 
+-- one entry of kind 9 for gate 5: a plan's step, with number 0, or a journal's marker
+abbrev gated : ℕ → ℕ → List ℕ
+gated number version = (9 ∷ 0 ∷ 5 ∷ 0 ∷ number ∷ zeros 3) ++ (version ∷ zeros 15)
+
+abbrev gatePlan : List ℕ
+gatePlan = (2 ∷ 0 ∷ 1 ∷ zeros 13) ++ gated 0 1
+
+-- the worked journal without its opener, and with a marker in its place
+abbrev markedWith : ℕ → ℕ → List ℕ
+markedWith number version = workedFront 2 ++ gated number version
+
 -- what is printed, and what 01 or 02 says
 abbrev pub shownLines : List (List ℕ × List ℕ)
 shownLines =
@@ -71,4 +83,11 @@ shownLines =
     (lineOf (verdictRule endedTwice workedPlan), ascii "no 45 1 0 2\n") ∷
     (lineOf (verdictRule (endedWith 8) workedPlan), ascii "ok finished 0 2 2 0\n") ∷
     (lineOf (verdictRule (endedWith 7) (emptyPlan 0)), ascii "ok finished 0 2 2 0\n") ∷
-    (lineOf (verdictRule endedTwice (emptyPlan 0)), ascii "no 24 2 0 3\n") ∷ []
+    (lineOf (verdictRule endedTwice (emptyPlan 0)), ascii "no 24 2 0 3\n") ∷
+    (lineOf (verdictRule (workedFront 1) gatePlan), ascii "ok due 0 1 1 0\n") ∷
+    (lineOf (verdictRule (markedWith 0 1) gatePlan), ascii "ok done 1 2 2 0\n") ∷
+    (lineOf (verdictRule (markedWith 1 1) gatePlan), ascii "no 22 1 1 1\n") ∷
+    (lineOf (verdictRule (markedWith 0 2) gatePlan), ascii "no 22 1 5 1\n") ∷
+    (lineOf (verdictRule workedJournal gatePlan), ascii "no 22 1 4 1\n") ∷
+    (lineOf (verdictRule (markedWith 0 1) workedPlan), ascii "no 22 1 4 2\n") ∷
+    (lineOf (verdictRule (endedWith 7) gatePlan), ascii "no 45 1 0 2\n") ∷ []

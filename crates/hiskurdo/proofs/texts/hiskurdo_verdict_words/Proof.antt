@@ -13,15 +13,15 @@ returns : tie.Need-returns
 returns c =
     let said = c .before .before .lend-line in
     let words = c .before .before .before .words-of in
-    let at-kind = c .before .before .before .before .before in
-    let kind = at-kind .telling-kind in
-    let verdict = at-kind .before .verdict in
-    let args = at-kind .before .before .before .before .before .args in
+    let at-telling = c .before .before .before .before .before in
+    let telling = at-telling .telling in
+    let verdict = at-telling .before .verdict in
+    let args = at-telling .before .before .before .before .before .args in
     let answer = verdict .result in
-    held-lent (words .result) (wordsOf answer (kind .result)) (wordsFor (args .journal .now) (args .plan .now)) (args .text .now)
+    held-lent (words .result) (wordsOf answer (telling .result)) (wordsFor (args .journal .now) (args .plan .now)) (args .text .now)
     (said .last .0) (said .result) (words .ensures)
-    (ap (wordsOf answer) (kind .ensures) ∙ ap (answerWords (args .journal .now) (args .plan .now)) (verdict .ensures .0))
-    (said .ensures .0) (said .ensures .1) (words-some answer (kind .result))
+    (ap (wordsOf answer) (telling .ensures) ∙ ap (answerWords (args .journal .now) (args .plan .now)) (verdict .ensures .0))
+    (said .ensures .0) (said .ensures .1) (words-some answer (telling .result))
 
 pub hiskurdo-verdict-words-spec : {M : Type 1} → statement M
 hiskurdo-verdict-words-spec =

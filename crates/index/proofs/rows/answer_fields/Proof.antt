@@ -19,7 +19,7 @@ returns c =
     let args = at-second .before .before .before .before .before .before .before .args in
     let answer = args .answer in (
       three (args .room .now) (first .last .0) (second .last .0) (third .last .0) (resumeOf answer) (printed answer)
-          (wordsOf answer (args .kind)) (args .at) (first .result) (second .result) (third .result) 9 9 10 (first .ensures .0)
+          (wordsOf answer (args .telling)) (args .at) (first .result) (second .result) (third .result) 9 9 10 (first .ensures .0)
           (second .ensures .0) (third .ensures .0),
       (search needs, sym (length-take-le (third .result) (third .last .0) (search needs))),
     )

@@ -13,11 +13,11 @@ returns c =
     let rest = c .before .before .answer-fields in
     let at-name = c .before .before .before .before .before .before in
     let name = at-name .name-field in
-    let kind = at-name .before .before .telling-kind in
+    let telling = at-name .before .before .telling in
     let answer = at-name .before .before .before .verdict in
     let args = at-name .before .before .before .before .before .before .before .before .args in (
       row-of (args .name .now) (args .journal .now) (args .plan .now) (args .room .now) (name .last .0) (rest .last .0) (name .result)
-          (rest .result) (kind .result) (answer .result) (name .ensures .0) (rest .ensures .0) (kind .ensures) ∙
+          (rest .result) (telling .result) (answer .result) (name .ensures .0) (rest .ensures .0) (telling .ensures) ∙
           ap (fields (args .name .now) (args .journal .now) (args .plan .now)) (answer .ensures .0),
       rest .ensures .1,
     )

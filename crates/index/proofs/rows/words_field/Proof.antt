@@ -11,7 +11,7 @@ returns c =
     let args = c .before .before .before .before .before .before .args in
     let line = c .before .before .before .before .words-of in
     let said = c .before .before .line-field in (
-      held-field (line .result) (wordsOf (args .answer) (args .kind)) (args .room .now) (args .at) 10 (said .last .0) (said .result)
+      held-field (line .result) (wordsOf (args .answer) (args .telling)) (args .room .now) (args .at) 10 (said .last .0) (said .result)
           (line .ensures) (said .ensures .0),
       said .ensures .1,
     )

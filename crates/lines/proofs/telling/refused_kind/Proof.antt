@@ -1,13 +1,16 @@
 -- `lines::telling::refused_kind` meets its contract: its tests are the rule's.
 -- Assumes nothing.
 use borrow.Author.Needs.{needs}
-use mathlib.Core.Path.{_≡_}
+use mathlib.Core.Path.{_≡_, ap}
 use borrow.Author.Tests.{eq-eqb, ne-eqb}
+use Rattle.files.specs.declared.Entry.{Entry}
 use Rattle.lines.proofs.telling.refused_kind.Statement.{statement}
 use Rattle.lines.proofs.telling.refused_kind.Tie as tie
 
 returns : tie.Need-returns
-returns c = rw (eq-eqb (c .before .before .before .args .number) 24 (c .before .if1 .taken)) (c .kind-before .ensures)
+returns c =
+    let args = c .before .before .before .args in
+    rw (eq-eqb (args .number) 24 (c .before .if1 .taken)) (ap (λ (e : Entry). e .kind) (c .entry-before .ensures))
 
 returns-2 : tie.Need-returns-2
 returns-2 c =

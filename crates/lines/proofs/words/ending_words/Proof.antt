@@ -21,7 +21,7 @@ use Rattle.lines.proofs.words.ending_words.Tie as tie
 
 -- the words of the row
 abbrev row-of : tie.After-said → List ℕ
-row-of c = filled (c .before .before .args .stop) (ascii (wordsIn table 0 (c .before .ending-detail .result)))
+row-of c = filled (c .before .before .args .n) (ascii (wordsIn table 0 (c .before .ending-detail .result)))
 
 write-requires : tie.Need-write-requires
 write-requires c κs =
@@ -30,7 +30,7 @@ write-requires c κs =
     omega (
       arith,
       held-len (row .said .result) (row-of row) (row .said .ensures),
-      ending-fits (args .stop) (row .before .ending-detail .result) (omega arith),
+      ending-fits (args .n) (row .before .ending-detail .result) (omega arith),
     )
 
 number-requires-2 : tie.Need-number-requires-2
@@ -41,7 +41,7 @@ number-requires-2 c κs =
       arith,
       c .write .ensures .1,
       held-len (row .said .result) (row-of row) (row .said .ensures),
-      ending-fits (args .stop) (row .before .ending-detail .result) (omega arith),
+      ending-fits (args .n) (row .before .ending-detail .result) (omega arith),
       twenty (args .failed) (omega arith),
     )
 
@@ -54,10 +54,10 @@ returns c =
     let number = decimal (args .failed) in
     let more = c .number2 .ensures ∙ ap (λ (l : Line). written l number) (c .before .write .ensures .0) ∙
     sym (written-append (row .said .result) words number) in
-    let fits = ending-fits (args .stop) (row .before .ending-detail .result) (omega arith) in
+    let fits = ending-fits (args .n) (row .before .ending-detail .result) (omega arith) in
     let room : length (row-of row) + length (failedWords (args .failed)) ≤ 128 =
     omega (arith, fits, twenty (args .failed) (omega arith), length-append words number) in
-    told-failed (args .ending) (args .stop) (args .kind) (args .failed)
+    told-failed (args .ending) (args .n) (args .kind) (args .failed)
     (tells-by (args .ending) (args .failed) (test .before .number .result) true (test .before .number .ensures) (test .if1 .taken))
     (row .before .ending-detail .ensures)
     (held-more (row .said .result) (c .number2 .result) (row-of row) (failedWords (args .failed)) (row .said .ensures) more room)
@@ -66,7 +66,7 @@ returns-2 : tie.Need-returns-2
 returns-2 c =
     let row = c .before .before in
     let args = row .before .before .args in
-    untold-failed (args .ending) (args .stop) (args .kind) (args .failed)
+    untold-failed (args .ending) (args .n) (args .kind) (args .failed)
     (tells-by (args .ending) (args .failed) (c .before .number .result) false (c .before .number .ensures) (c .if1 .left))
     (row .before .ending-detail .ensures) (row .said .ensures)
 

@@ -1,0 +1,77 @@
+-- The step that the words of 45 show is the one at which the run was completed (`shown-step`).
+use Prim.Native.Nat.{ℕ, _+_, _-_}
+use mathlib.Core.Path.{_≡_, refl, sym, ap, subst, _∙_}
+use mathlib.Core.List.{List, [], _∷_, _++_, append-assoc}
+use native.Mathlib.Omega.{arith}
+use borrow.Author.Tests.{ne-eqb}
+use lib.ListN.{length, take, drop, length-append, take-append-drop}
+use lib.Seq.{length-take-le}
+use Rattle.clocks.specs.declared.ClockCapability.{ClockCapability}
+use Rattle.records.specs.declared.RecordRef.{RecordRef}
+use Rattle.records.specs.declared.RecordRef.the-variants as RecordRef
+use Rattle.files.specs.declared.Format.the-variants as Format
+use Rattle.files.specs.declared.PlanStep.{PlanStep}
+use Rattle.files.specs.Contents.{recordsOf}
+use Rattle.files.specs.Encoding.{recordEntry}
+use Rattle.files.specs.Kinds.{entryIn}
+use Rattle.files.specs.Standing.{Whole}
+use Rattle.files.proofs.Numbered.{record-at}
+use Rattle.histories.specs.declared.Answer.the-variants as Answer
+use Rattle.histories.specs.Histories.{Starts, Boundaries}
+use Rattle.histories.specs.Histories as H
+use Rattle.histories.specs.Promise.{TooSoon}
+use Rattle.histories.specs.Promise as P
+use Rattle.histories.specs.StepAt.{stepAfter}
+use Rattle.histories.proofs.Soon.{too-soon-step, too-soon-within}
+use Rattle.lines.specs.Telling.{entryBefore, stepNext, tellingOf}
+
+-- a run that was completed at step 0 has its start alone before
+no-boundary : {capability : ClockCapability} {i : ℕ} {rs : List RecordRef} → Boundaries capability i [] rs → rs ≡ []
+no-boundary H.none = refl
+
+start-alone : {capability : ClockCapability} {plan : List PlanStep} {records : List RecordRef} {p : ℕ} → TooSoon capability plan records p 0 →
+    (before : List RecordRef) (x : RecordRef) → take p records ≡ before ++ (x ∷ []) → Starts x
+start-alone (P.completed {start} h starts b front-is rest-is) before x q =
+    by-front before (sym q ∙ front-is ∙ ap (λ (l : List RecordRef). start ∷ l) (no-boundary b))
+  where
+    by-front : (before : List RecordRef) → before ++ (x ∷ []) ≡ start ∷ [] → Starts x
+    by-front [] e = let same : start ≡ x = cc in subst Starts same starts
+    by-front (y ∷ ys) e = absurd (omega (arith, ap (λ (l : List RecordRef). length l) e, length-append ys (x ∷ [])))
+
+after-start : {x : RecordRef} → Starts x → (k : ℕ) → stepAfter x ≡ k → stepNext (recordEntry x) ≡ k
+after-start H.started k h = h
+
+-- the step after a record is told by its entry; a run's end, which closes no step, comes before none
+by-entry : (x : RecordRef) (k : ℕ) → stepAfter x ≡ k → (k ≡ 0 → Starts x) → stepNext (recordEntry x) ≡ k
+by-entry (RecordRef.RunStarted kind version body) k h first = h
+by-entry (RecordRef.EffectScheduled seq kind len crc) k h first = h
+by-entry (RecordRef.EffectCompleted seq body) k h first = h
+by-entry (RecordRef.EffectFailed seq body) k h first = h
+by-entry (RecordRef.TimerScheduled seq clock deadline armed) k h first = h
+by-entry (RecordRef.TimerFired seq) k h first = h
+by-entry (RecordRef.RunCompleted body) k h first = after-start (first (sym h)) k h
+by-entry (RecordRef.RunFailed body) k h first = after-start (first (sym h)) k h
+by-entry (RecordRef.VersionMarker seq gate version) k h first = h
+
+-- the entry before a place, by how many come before it
+entry-before : (journal : List ℕ) (place n : ℕ) → place ≡ n + 1 → entryBefore journal place ≡ entryIn journal n
+entry-before journal place n e = rw (ne-eqb place 0 (λ (z : place ≡ 0). omega arith)) (ap (entryIn journal) (one-less place n e))
+  where
+    one-less : (a b : ℕ) → a ≡ b + 1 → a - 1 ≡ b
+    one-less a b e = omega arith
+
+pub shown-step : (journal plan : List ℕ) → Whole Format.Journal journal → {capability : ClockCapability} {steps : List PlanStep} {p k : ℕ} →
+    TooSoon capability steps (recordsOf journal) p k → (divergence calls : ℕ) →
+    tellingOf journal plan (Answer.No 45 p divergence calls) .number ≡ k
+shown-step journal plan whole {capability} {steps} {p} {k} soon divergence calls =
+    let records = recordsOf journal in
+    let last = too-soon-step soon in
+    let before = last .0 in
+    let x = last .1 .0 in
+    let front-is = last .1 .1 .0 in
+    let split : records ≡ before ++ (x ∷ drop p records) =
+    sym (take-append-drop p records) ∙ ap (λ (l : List RecordRef). l ++ drop p records) front-is ∙ append-assoc before (x ∷ []) (drop p records) in
+    let long = sym (length-take-le p records (omega (arith, too-soon-within soon))) ∙ ap (λ (l : List RecordRef). length l) front-is in
+    let place : p ≡ length before + 1 = omega (arith, long, length-append before (x ∷ [])) in
+    let here = entry-before journal p (length before) place ∙ record-at journal whole before x (drop p records) split in
+    ap stepNext here ∙ by-entry x k (last .1 .1 .1) (λ z. start-alone (subst (TooSoon capability steps records p) z soon) before x front-is)
