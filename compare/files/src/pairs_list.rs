@@ -5,7 +5,8 @@ use std::ops::RangeInclusive;
 use waymaker_core::{ActivityKind, ClockCapability, EffectRequest, TimerSpec};
 
 use crate::damaged_list;
-use crate::pairs::{BODIES, Item, Pair, journal_of};
+use crate::gates;
+use crate::pairs::{BODIES, Item, Pair, journal_of, number_after};
 use crate::random::Random;
 use crate::reader::{Entry, Format, Refused, Step, read_journal, read_plan};
 use crate::samples;
@@ -34,11 +35,9 @@ pub fn list() -> Vec<Bytes> {
     endings(&mut pairs, ClockCapability::Persistent, 0..=5);
     // A board with a boot clock only does not admit step 3.
     endings(&mut pairs, ClockCapability::BootOnly, 3..=3);
-    pairs.extend(
-        too_soon::stored()
-            .into_iter()
-            .map(|case| (case.journal, case.plan)),
-    );
+    for cases in [too_soon::stored(), gates::stored()] {
+        pairs.extend(cases.into_iter().map(|case| (case.journal, case.plan)));
+    }
     beyond(&mut pairs);
     barred(&mut pairs);
     one_wrong_record(&mut pairs);
@@ -91,6 +90,7 @@ pub fn entry(kind: u8, s: u32, body: &'static [u8]) -> Item {
     (entry, body)
 }
 
+/// A step's opener, or a gate's marker.
 pub fn opener(step: &Step<'_>, number: u32) -> Item {
     let (mut entry, _) = writing::step_entry(step);
     entry.s = number;
@@ -100,12 +100,13 @@ pub fn opener(step: &Step<'_>, number: u32) -> Item {
     (entry, &[])
 }
 
-/// The outcome or the firing; the effect with number 2 failed.
-fn closer(step: &Step<'_>, number: u32) -> Item {
+/// The outcome or the firing; the effect with number 2 failed. A gate has none.
+fn closer(step: &Step<'_>, number: u32) -> Option<Item> {
     match step {
-        Step::Effect { .. } if number == 2 => entry(4, number, &[4, 5]),
-        Step::Effect { .. } => entry(3, number, &[9]),
-        Step::Timer(_) => entry(6, number, &[]),
+        Step::Effect { .. } if number == 2 => Some(entry(4, number, &[4, 5])),
+        Step::Effect { .. } => Some(entry(3, number, &[9])),
+        Step::Timer(_) => Some(entry(6, number, &[])),
+        Step::Gate { .. } => None,
     }
 }
 
@@ -113,7 +114,8 @@ fn closer(step: &Step<'_>, number: u32) -> Item {
 pub fn before(steps: &[Step<'_>], stop: usize) -> Vec<Item> {
     let mut items = vec![entry(1, 0, &[8])];
     for (step, number) in steps[..stop].iter().zip(0..) {
-        items.extend([opener(step, number), closer(step, number)]);
+        items.push(opener(step, number));
+        items.extend(closer(step, number));
     }
     items
 }
@@ -246,16 +248,13 @@ fn one_wrong_record(pairs: &mut Vec<Bytes>) {
     whole.push(entry(7, 0, &[]));
     for place in 0..=whole.len() {
         for kind in 1..=9 {
-            let number = match kind {
-                1 | 7 | 8 => 0,
-                _ => (place as u32).saturating_sub(1) / 2,
-            };
-            let record = entry(kind, number, &[]);
+            let before = &whole[..place];
+            let record = entry(kind, number_after(before, kind), &[]);
             push(
                 pairs,
                 ClockCapability::Persistent,
                 steps,
-                &[&whole[..place], &[record]].concat(),
+                &[before, &[record]].concat(),
             );
         }
     }
@@ -283,7 +282,7 @@ fn wrong_fields(
         pairs,
         capability,
         steps,
-        &[&before[..], &[(right, &[]), late]].concat(),
+        &[&before[..], &[(right, &[])], late.as_slice()].concat(),
     );
 }
 
