@@ -6,7 +6,7 @@ use waymaker_core::{ClockCapability, GateId, TimerSpec};
 
 use crate::cases::Case;
 use crate::pairs::{BODIES, Item, journal_of};
-use crate::pairs_list::{RUN, effect, entry, opener};
+use crate::pairs_list::{RUN, bare, effect, entry, opener};
 use crate::reader::{Entry, Step};
 use crate::resume::Handover;
 use crate::too_soon::{BOARDS, barred};
@@ -101,8 +101,7 @@ pub fn stored() -> Vec<Case> {
     let mut cases = Vec::new();
     let [effect, boot, persistent, _] = kinds(0);
     let board = ClockCapability::BootOnly;
-    Run::before(board, &[gate(0)], 0).at_gate(&mut cases, false);
-    Run::before(board, &[effect, gate(1)], 1).at_gate(&mut cases, false);
+    Run::bare(board, &[gate(0), gate(1)], 1).at_gate(&mut cases, false);
     for (steps, stops) in [
         (&[gate(0)][..], 0..=1),
         (&[gate(0), effect], 1..=2),
@@ -121,7 +120,7 @@ pub fn stored() -> Vec<Case> {
         (&[gate(0)], 1),
         (&[persistent, gate(1)], 0),
     ] {
-        Run::before(board, steps, stop).marker_elsewhere(&mut cases);
+        Run::bare(board, steps, stop).marker_elsewhere(&mut cases);
     }
     Run::before(board, &[gate(0); 1_024], 2).standing(&mut cases);
     cases
@@ -159,6 +158,15 @@ impl Run<'_> {
             run.handed.push(handed);
         }
         run
+    }
+
+    /// The same without bodies, which takes less text.
+    fn bare<'s>(capability: ClockCapability, steps: &'s [Step<'static>], stop: usize) -> Run<'s> {
+        let run = Run::before(capability, steps, stop);
+        Run {
+            items: bare(run.items),
+            ..run
+        }
     }
 
     fn outcome(&mut self, number: usize) -> Handover<'static> {

@@ -16,6 +16,7 @@ pub fn items(file: &[u8]) -> String {
         item(&mut text, &file[at..at + length], times);
         at += length * times;
     }
+    assert!(bytes(&text) == file, "the text says other bytes");
     text
 }
 

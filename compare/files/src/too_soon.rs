@@ -125,7 +125,7 @@ pub fn stored() -> Vec<Case> {
     made.ended(ClockCapability::BootOnly, &[persistent], 0, next);
     made.ended(ClockCapability::Persistent, &[effect], 0, next);
     made.ended(ClockCapability::BootOnly, &[effect], 1, next);
-    made.ended(ClockCapability::Persistent, &[effect, gate], 1, next);
+    made.ended(ClockCapability::Persistent, &[gate, gate], 1, next);
     made.cases
 }
 
