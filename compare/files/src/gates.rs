@@ -9,6 +9,8 @@ use crate::pairs::{BODIES, Item, journal_of};
 use crate::pairs_list::{RUN, bare, effect, entry, opener};
 use crate::reader::{Entry, Step};
 use crate::resume::Handover;
+use crate::samples::WORKED_PLAN;
+use crate::text::bytes;
 use crate::too_soon::{BOARDS, barred};
 use crate::words::{another_marker, completed_at, marker_due};
 use crate::writing;
@@ -17,9 +19,51 @@ const COMPLETED: u8 = 7;
 const FAILED: u8 = 8;
 const NOTHING: Handover<'static> = Handover::Refused(32);
 
-/// Every case: all of plans of up to three steps that have a gate, and some of long plans.
+/// The record after the start, the plan and the line, in document 01's notation. Gate 3, version 2: its
+/// marker; another number, another number and gate; another gate; another version; a schedule, a timer;
+/// an outcome, a firing, a start; the run completed, it failed. Then a marker at an effect and after the
+/// last step.
+const PRINTED: [(&str, &str, &str); 14] = [
+    ("09 00 03 00*5 02 00*15", GATE, "ok done 1 2 2 0"),
+    ("09 00 03 00 01 00*3 02 00*15", GATE, "no 22 1 1 1"),
+    ("09 00 04 00 01 00*3 02 00*15", GATE, "no 22 1 1 1"),
+    ("09 00 04 00*5 02 00*15", GATE, "no 22 1 5 1"),
+    ("09 00 03 00*5 03 00*15", GATE, "no 22 1 5 1"),
+    ("02 00*23", GATE, "no 22 1 4 1"),
+    ("05 01 00*6 05 00*15", GATE, "no 22 1 4 1"),
+    ("03 00*23", GATE, "no 24 1 0 2"),
+    ("06 00*23", GATE, "no 24 1 0 2"),
+    ("01 00*23", GATE, "no 24 1 0 2"),
+    ("07 00*23", GATE, "no 45 1 0 2"),
+    ("08 00*23", GATE, "ok finished 0 2 2 0"),
+    ("09 00 03 00*5 02 00*15", WORKED_PLAN, "no 22 1 4 2"),
+    ("09 00 03 00*5 02 00*15", "02 00*15", "no 31 1 0 1"),
+];
+const GATE: &str = "02 00 01 00*13 09 00 03 00*5 02 00*15";
+
+/// Those that are printed, and the gate that is due after the start alone.
+fn printed() -> Vec<Case> {
+    let case = |journal: String, plan, line: &str| Case {
+        journal: bytes(&journal),
+        plan: bytes(plan),
+        line: line.to_string(),
+        words: None,
+        handed: Vec::new(),
+    };
+    let start = "01 00 01 00 07 00*11 01 00*23".to_string();
+    let two = |record| format!("01 00 02 00 07 00*11 01 00*23 {record}");
+    let more = PRINTED.map(|(record, plan, line)| case(two(record), plan, line));
+    let mut cases = vec![case(start, GATE, "ok due 0 1 1 0")];
+    cases[0].words = Some(marker_due(3, 0));
+    cases[0].handed = vec![NOTHING; 2];
+    cases.extend(more);
+    cases
+}
+
+/// Every case: those that are printed, all of plans of up to three steps that have a gate, and some of
+/// long plans.
 pub fn cases() -> Vec<Case> {
-    let mut cases = Vec::new();
+    let mut cases = printed();
     let mut plans = vec![Vec::new()];
     for place in 0..3 {
         let longer =
@@ -138,7 +182,7 @@ struct Run<'s> {
 }
 
 impl Run<'_> {
-    /// Every second effect failed, and no two neighbours have the same outcome.
+    /// The effects with even numbers failed; each outcome has bytes of its own.
     fn before<'s>(capability: ClockCapability, steps: &'s [Step<'static>], stop: usize) -> Run<'s> {
         let mut run = Run {
             capability,
@@ -341,11 +385,10 @@ fn openers(number: u32, every: bool) -> Vec<Item> {
         true => (&[0, 1, 2, 3, u32::MAX], &[effect, boot, persistent]),
         false => (&[number, number + 1], &[effect, boot]),
     };
-    let with = |number: &u32| steps.iter().map(|step| opener(step, *number)).collect();
-    let mut openers: Vec<Item> = numbers
-        .iter()
-        .flat_map(|number| -> Vec<Item> { with(number) })
-        .collect();
+    let mut openers = Vec::new();
+    for number in numbers {
+        openers.extend(steps.iter().map(|step| opener(step, *number)));
+    }
     if every {
         let unknown = Entry {
             kind: 5,
