@@ -198,12 +198,12 @@ impl Files {
     /// The last step is open, and the plan has as many steps as the journal has records; with the length of
     /// each outcome.
     fn new(records: usize, step: fn(usize) -> Step<'static>, outcome: usize) -> Files {
-        let stop = (records - 2) / 2;
         let steps: Vec<Step> = (0..records).map(step).collect();
-        let mut items = vec![started()];
-        for (number, step) in steps[..stop].iter().enumerate() {
-            items.push(opener(step, number));
-            items.extend(closer(step, number, outcome));
+        let (mut items, mut stop) = (vec![started()], 0);
+        while items.len() + 1 < records {
+            items.push(opener(&steps[stop], stop));
+            items.extend(closer(&steps[stop], stop, outcome));
+            stop += 1;
         }
         items.push(opener(&steps[stop], stop));
         Files {

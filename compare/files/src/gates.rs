@@ -92,7 +92,7 @@ fn kinds(place: u16) -> [Step<'static>; 4] {
 
 fn gate(place: u16) -> Step<'static> {
     Step::Gate {
-        gate: GateId(3 + place),
+        gate: GateId(259 + place),
         version: 1_030 - place,
     }
 }
