@@ -26,8 +26,8 @@ pub fn run(settings: &Settings) -> String {
         boot(5),
         persistent(5),
         effect(2, 1, 6),
-        gate(1, 1),
-        gate(2, 2),
+        gate(1, 3),
+        gate(2, 4),
     ];
     let alphabet = letters(&[0, 1, 2, 3, u32::MAX], true);
     let (mut followed, mut failures) = (0, Failures::default());
@@ -50,7 +50,7 @@ pub fn run(settings: &Settings) -> String {
 
 /// Every list up to this many records, over the smaller alphabet.
 fn every_list(depth: u32) -> u64 {
-    let steps = [effect(1, 0, 5), boot(5), persistent(5), gate(1, 1)];
+    let steps = [effect(1, 0, 5), boot(5), persistent(5), gate(1, 3)];
     let alphabet = letters(&[0, 1, 2], false);
     let mut lists = 0;
     for_each_plan(&steps, |scope| {
@@ -172,9 +172,10 @@ fn timers(letters: &mut Vec<RecordRef<'static>>, seq: EffectSeq, free: bool) {
     }
 }
 
-/// Among them the markers of both gates of the plans, with `free` alone the second one's.
+/// The first is the marker of the one gate, the fourth that of the other; the last has gate and version
+/// exchanged.
 fn markers(letters: &mut Vec<RecordRef<'static>>, seq: EffectSeq, free: bool) {
-    let wanted = [(1, 1), (2, 1), (1, 2), (2, 2), (0, 0)];
+    let wanted = [(1, 3), (2, 3), (1, 4), (2, 4), (3, 1)];
     for (gate, version) in &wanted[..if free { 5 } else { 3 }] {
         letters.push(RecordRef::VersionMarker {
             seq,

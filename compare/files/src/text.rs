@@ -6,7 +6,7 @@ use std::fmt::Write;
 /// The lengths of which repeats are looked for: some bytes, an entry, two and three of them.
 const LENGTHS: [usize; 10] = [1, 2, 3, 4, 6, 8, 12, 24, 48, 72];
 
-/// The items of a file, so that the text is the shortest with repeats of these lengths.
+/// The items of a file, chosen for the least text with repeats of these lengths.
 pub fn items(file: &[u8]) -> String {
     let shortest = Shortest::of(file);
     let mut text = String::new();
