@@ -368,9 +368,9 @@ fn other_numbers(right: Entry, every: bool) -> Vec<Entry> {
 /// exchanged.
 fn other_gates(right: Entry, every: bool) -> Vec<Entry> {
     let Entry { a, d, .. } = right;
-    let mut fields = vec![(a + 1, d), (a, d + 1), (a - 1, d + 1)];
+    let mut fields = vec![(a + 1, d), (a - 1, d), (a, d + 1), (a, d - 1)];
     if every {
-        fields.extend([(a, d - 1), (a - 1, d), (a ^ 0x8000, d), (a ^ 0x100, d)]);
+        fields.extend([(a - 1, d + 1), (a ^ 0x8000, d), (a ^ 0x100, d)]);
         fields.extend([(a, d ^ 0x8000), (a, d ^ 0x100), (a, 0), (0, 0)]);
         fields.push((d as u16, a.into()));
     }

@@ -94,8 +94,7 @@ impl<'a> Judge<'a> {
     }
 
     /// Refused at record p: the first p records begin a history, the first p + 1 none. It is 45 exactly
-    /// where record p completes the run too soon. A divergence goes with 22 alone. Where no call is made on
-    /// record p, the number and the divergence are those that are written out for it.
+    /// where record p completes the run too soon. A divergence goes with 22 alone.
     fn not_refused_at(
         &self,
         records: &[RecordRef<'_>],
@@ -114,17 +113,32 @@ impl<'a> Judge<'a> {
         if (divergence != 0) != (number == 22) {
             return Some("a divergence without 22, or 22 without one");
         }
-        let uncalled = self.without_a_call(&records[..=p]);
-        if uncalled.is_some_and(|owed| owed != (number, divergence)) {
-            return Some("refused without a call, with another number or divergence");
+        self.wrong_calls(&records[..=p], [number, divergence, calls])
+    }
+
+    /// Refused at the last of these records. Where no call is made on it, number and divergence are fixed, and
+    /// neither 31 nor divergence 5 is given elsewhere. A call that is refused at a gate is 24 or 45.
+    fn wrong_calls(
+        &self,
+        records: &[RecordRef<'_>],
+        [number, divergence, calls]: [u64; 3],
+    ) -> Option<&'static str> {
+        let before = &records[..records.len() - 1];
+        let p = before.len() as u64;
+        let at_gate = matches!(self.next_step(before), Some(Step::Gate { .. }));
+        match self.without_a_call(records) {
+            Some(owed) if owed != (number, divergence) => {
+                Some("refused without a call, with another number or divergence")
+            }
+            None if number == 31 || divergence == 5 => {
+                Some("31 before the last step is whole, or divergence 5 not at a gate")
+            }
+            None if at_gate && !matches!(number, 24 | 45) => {
+                Some("refused by a call at a gate, with another number than 24 and 45")
+            }
+            owed => (calls != p + u64::from(owed.is_none()))
+                .then_some("refused with another count of calls"),
         }
-        if uncalled.is_none() && (number == 31 || divergence == 5) {
-            return Some(
-                "31 before the last step is whole, or divergence 5 at another step than a gate",
-            );
-        }
-        let called = u64::from(uncalled.is_none());
-        (calls != p as u64 + called).then_some("refused with another count of calls")
     }
 
     /// The number and the divergence, where the last of these records is refused and no call is made on it:
