@@ -147,7 +147,7 @@ fn effects(letters: &mut Vec<RecordRef<'static>>, seq: EffectSeq, free: bool) {
     }
 }
 
-/// The last seven are among them with `free` alone: clocks that have no spec, and another armed time.
+/// The last seven stand there with `free` alone.
 fn timers(letters: &mut Vec<RecordRef<'static>>, seq: EffectSeq, free: bool) {
     let wanted = [
         (1, 5, 100),

@@ -130,7 +130,7 @@ pub fn stored() -> Vec<Case> {
 }
 
 /// An effect, a boot timer, a persistent timer, a gate.
-pub fn steps() -> [Step<'static>; 4] {
+fn steps() -> [Step<'static>; 4] {
     [
         effect(5, &[1, 2, 3], 0),
         Step::Timer(TimerSpec::AfterBoot { ticks: 5 }),
@@ -143,7 +143,7 @@ pub fn steps() -> [Step<'static>; 4] {
 }
 
 /// This plan with each step added.
-pub fn longer(plan: &[Step<'static>]) -> [Vec<Step<'static>>; 4] {
+fn longer(plan: &[Step<'static>]) -> [Vec<Step<'static>>; 4] {
     steps().map(|step| [plan, &[step]].concat())
 }
 
