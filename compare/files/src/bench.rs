@@ -8,7 +8,7 @@ use std::hint::black_box;
 use std::thread;
 use std::time::Instant;
 
-use waymaker_core::{ActivityKind, ClockCapability, EffectRequest, TimerSpec};
+use waymaker_core::{ActivityKind, ClockCapability, EffectRequest, GateId, TimerSpec};
 
 use crate::numbers::{self, EntryNumbers};
 use crate::pairs::{BODIES, Item, journal_of};
@@ -79,14 +79,20 @@ pub fn run() {
     println!();
     println!("| Verdict, growth from 128 to 1,024 records | 128 | 1,024 | Times | Goal |");
     println!("|---|---|---|---|---|");
-    let [small, large] = [&all.small, &all.large].map(verdict_case);
-    let (few, many, times) = by_turns(&small.rust, &large.rust);
-    println!("| Rust | {few:.0} | {many:.0} | {times:.2} | |");
-    let (few, many, times) = by_turns(&small.rattle, &large.rattle);
-    let goal = told(times, MOST_GROWTH, &mut unmet);
-    println!("| Rattle | {few:.0} | {many:.0} | {times:.2} | {goal} |");
+    growth("", [&all.small, &all.large], &mut unmet);
+    growth(", gates", [&all.few_gates, &all.gates], &mut unmet);
     println!();
     println!("goals not met: {unmet}");
+}
+
+/// Times each side's verdict on two pairs, and prints how many times as long the second takes.
+fn growth(of: &str, pairs: [&Files; 2], unmet: &mut u64) {
+    let [small, large] = pairs.map(verdict_case);
+    let (few, many, times) = by_turns(&small.rust, &large.rust);
+    println!("| Rust{of} | {few:.0} | {many:.0} | {times:.2} | |");
+    let (few, many, times) = by_turns(&small.rattle, &large.rattle);
+    let goal = told(times, MOST_GROWTH, unmet);
+    println!("| Rattle{of} | {few:.0} | {many:.0} | {times:.2} | {goal} |");
 }
 
 /// Makes so many calls of one side of the case whose name begins so, for a counter of instructions.
@@ -135,6 +141,9 @@ struct AllFiles {
     timers: Files,
     /// A journal of 1,024 version markers: of a kind that the proved code has no test for.
     markers: Vec<u8>,
+    /// A run's start and 1,023 markers, and as many gates; an eighth of it.
+    gates: Files,
+    few_gates: Files,
     small: Files,
     large: Files,
 }
@@ -151,6 +160,8 @@ impl AllFiles {
             full,
             timers: Files::new(1_024, timer, 0),
             markers: markers(1_024),
+            gates: Files::gates(1_024),
+            few_gates: Files::gates(128),
             small: Files::new(128, |number| effect(number, 0), 0),
             large: Files::new(1_024, |number| effect(number, 0), 0),
         }
@@ -173,8 +184,7 @@ fn markers(count: u32) -> Vec<u8> {
     file.bytes()
 }
 
-/// A journal of so many records whose last step is open, and its plan, which has as many
-/// steps as the journal has records.
+/// A journal of so many records, and its plan.
 struct Files {
     what: &'static str,
     records: usize,
@@ -185,24 +195,43 @@ struct Files {
 }
 
 impl Files {
-    /// The length of each outcome.
+    /// The last step is open, and the plan has as many steps as the journal has records; with the length of
+    /// each outcome.
     fn new(records: usize, step: fn(usize) -> Step<'static>, outcome: usize) -> Files {
-        let stop = (records - 2) / 2;
         let steps: Vec<Step> = (0..records).map(step).collect();
-        let mut items = vec![started()];
-        for (number, step) in steps[..stop].iter().enumerate() {
-            items.extend([opener(step, number), closer(step, number, outcome)]);
+        let (mut items, mut stop) = (vec![started()], 0);
+        while items.len() + 1 < records {
+            items.push(opener(&steps[stop], stop));
+            items.extend(closer(&steps[stop], stop, outcome));
+            stop += 1;
         }
         items.push(opener(&steps[stop], stop));
         Files {
             what: match steps[0] {
                 Step::Effect { .. } => "effects",
                 Step::Timer(_) => "timers",
+                Step::Gate { .. } => "gates",
             },
             records,
             journal: journal_of(7, &items).bytes(),
             plan: writing::plan(ClockCapability::Persistent, &steps).bytes(),
             stop: stop as u64,
+        }
+    }
+
+    /// Every record but the first is the marker of a gate, and every gate has its own.
+    fn gates(records: usize) -> Files {
+        let steps: Vec<Step> = (0..records - 1).map(gate).collect();
+        let mut items = vec![started()];
+        for (number, step) in steps.iter().enumerate() {
+            items.push(opener(step, number));
+        }
+        Files {
+            what: "gates",
+            records,
+            journal: journal_of(7, &items).bytes(),
+            plan: writing::plan(ClockCapability::Persistent, &steps).bytes(),
+            stop: steps.len() as u64,
         }
     }
 }
@@ -227,6 +256,13 @@ fn timer(number: usize) -> Step<'static> {
     })
 }
 
+fn gate(number: usize) -> Step<'static> {
+    Step::Gate {
+        gate: GateId(number as u16),
+        version: 3,
+    }
+}
+
 fn started() -> Item {
     let entry = Entry {
         kind: 1,
@@ -242,17 +278,18 @@ fn opener(step: &Step<'_>, number: usize) -> Item {
     (entry, &[])
 }
 
-fn closer(step: &Step<'_>, number: usize, outcome: usize) -> Item {
+fn closer(step: &Step<'_>, number: usize, outcome: usize) -> Option<Item> {
     let entry = Entry {
         kind: match step {
             Step::Effect { .. } => 3,
             Step::Timer(_) => 6,
+            Step::Gate { .. } => return None,
         },
         s: number as u32,
         m: outcome as u64,
         ..Entry::default()
     };
-    (entry, &BODIES[number..number + outcome])
+    Some((entry, &BODIES[number..number + outcome]))
 }
 
 fn cases(all: &AllFiles) -> Vec<Case<'_>> {
@@ -266,6 +303,7 @@ fn cases(all: &AllFiles) -> Vec<Case<'_>> {
         walking_case(Format::Plan, full),
         verdict_case(full),
         verdict_case(&all.timers),
+        verdict_case(&all.gates),
     ];
     for boundary in [0, full.stop - 1, full.stop, full.stop + 1] {
         cases.push(handover_case(full, boundary));

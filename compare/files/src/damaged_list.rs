@@ -194,7 +194,7 @@ fn limits(files: &mut Vec<Vec<u8>>, format: Format) {
     }
 }
 
-/// What only a plan refuses: S, clocks, M of a timer, a timer of 0.
+/// What only a plan refuses: S, clocks, M of a timer, a timer of 0, clock and M of a gate.
 fn plan_fields(files: &mut Vec<Vec<u8>>, format: Format) {
     let mut entries = Vec::new();
     for clock in [0, 1, 2, 3, 4, 255] {
@@ -203,7 +203,7 @@ fn plan_fields(files: &mut Vec<Vec<u8>>, format: Format) {
             ..right(format)
         });
     }
-    for kind in [2, 5] {
+    for kind in [2, 5, 9] {
         let plain = empty_entry(format, kind);
         for s in [1, u32::MAX] {
             entries.push(Entry { s, ..plain });
@@ -219,6 +219,14 @@ fn plan_fields(files: &mut Vec<Vec<u8>>, format: Format) {
             ..right(format)
         });
     }
+    let gate = Entry {
+        a: u16::MAX,
+        d: 65_535,
+        ..empty_entry(format, 9)
+    };
+    let clocks = [1, 255].map(|clock| Entry { clock, ..gate });
+    let above = Entry { d: 65_536, ..gate };
+    entries.extend([gate, clocks[0], clocks[1], above]);
     for entry in entries {
         files.push(table(format, vec![entry]).bytes());
         files.push(table(format, vec![right(format), entry]).bytes());

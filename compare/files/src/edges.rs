@@ -1,4 +1,4 @@
-//! The edges of the fields' bounds, and a plan's timers of 0. All parts but the last (`together`) have
+//! The edges of the fields' bounds, a plan's timers of 0 and its gates. All parts but the last (`together`) have
 //! the number that is owed written out: the rules of the plain reader have no part in those.
 
 use crate::compared_files::Compared;
@@ -12,6 +12,8 @@ pub fn run(compared: &mut Compared) {
     timers(compared);
     zero_timers(compared);
     not_filled_in(compared);
+    gates(compared);
+    gates_among_others(compared);
     bodies(compared);
     unknown_kinds(compared);
     one_bit_more(compared);
@@ -104,6 +106,77 @@ fn not_filled_in(compared: &mut Compared) {
         let mut entries = vec![timer; 1_024];
         entries[place] = zero;
         owed_by(compared, plan, &entries, 0, (44, place as u64));
+    }
+}
+
+/// A plan's gate: each field at its greatest value is read, one above is 18; clock, S and M are 0 or 18.
+/// Version 0 loads. In a journal S may be any.
+fn gates(compared: &mut Compared) {
+    let plan = Format::Plan;
+    let zero = empty_entry(plan, 9);
+    let full = Entry {
+        a: 65_535,
+        d: 65_535,
+        ..zero
+    };
+    for gate in [zero, full, Entry { d: 0, ..full }, Entry { a: 0, ..full }] {
+        owed(compared, plan, gate, 0);
+        for d in [65_536, 1 << 32, 1 << 63, u64::MAX] {
+            owed(compared, plan, Entry { d, ..gate }, 18);
+        }
+        for clock in [1, 2, 255] {
+            owed(compared, plan, Entry { clock, ..gate }, 18);
+        }
+        for s in [1, 1 << 31, u32::MAX] {
+            owed(compared, plan, Entry { s, ..gate }, 18);
+            owed(compared, Format::Journal, Entry { s, ..gate }, 0);
+        }
+        for m in [1, 65_535, 1 << 32, u64::MAX] {
+            owed(compared, plan, Entry { m, ..gate }, 18);
+            owed(compared, Format::Journal, Entry { m, ..gate }, 8);
+        }
+        for kind in [0, 1, 3, 4, 6, 7, 8, 10, 255] {
+            owed(compared, plan, Entry { kind, ..gate }, 17);
+        }
+    }
+}
+
+/// A gate has no body, whatever its version; its 18 has its entry as its place and comes before the next
+/// entry and before the sum of the bodies.
+fn gates_among_others(compared: &mut Compared) {
+    let plan = Format::Plan;
+    let gate = Entry {
+        d: 3,
+        ..empty_entry(plan, 9)
+    };
+    let effect = Entry {
+        d: 3,
+        ..empty_entry(plan, 2)
+    };
+    let timer = empty_entry(plan, 5);
+    let zero = Entry { d: 0, ..timer };
+    let bad = Entry { m: 1, ..gate };
+    let bad_kind = Entry { kind: 8, ..gate };
+    for (entries, bodies, refusal) in [
+        (vec![gate], 3, (19, 0)),
+        (vec![gate; 2], 0, (0, 0)),
+        (vec![gate, effect], 3, (0, 0)),
+        (vec![effect, gate, effect], 6, (0, 0)),
+        (vec![effect, gate], 6, (19, 0)),
+        (vec![gate, zero], 0, (44, 1)),
+        (vec![zero, bad], 0, (44, 0)),
+        (vec![bad, zero], 0, (18, 0)),
+        (vec![bad, bad_kind], 0, (18, 0)),
+        (vec![bad_kind, bad], 0, (17, 0)),
+        (vec![gate, timer, bad], 5, (18, 2)),
+        (vec![gate; 1_024], 0, (0, 0)),
+    ] {
+        owed_by(compared, plan, &entries, bodies, refusal);
+    }
+    for place in 0..1_024 {
+        let mut entries = vec![gate; 1_024];
+        entries[place] = bad;
+        owed_by(compared, plan, &entries, 0, (18, place as u64));
     }
 }
 

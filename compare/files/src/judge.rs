@@ -4,7 +4,7 @@
 use waymaker_core::{ClockCapability, RecordRef, TimerSpec};
 
 use crate::failures::failed_outcomes;
-use crate::histories::{Form, forms};
+use crate::histories::{Form, forms, place_of};
 use crate::reader::Step;
 use crate::resume::{Ending, Handover, Verdict, handover};
 
@@ -40,7 +40,7 @@ impl<'a> Judge<'a> {
                 failed,
             } => self
                 .not_accepted(records, ending, stop)
-                .or_else(|| wrong_counts(records, ending, [count, calls, failed])),
+                .or_else(|| self.wrong_counts(records, ending, stop, [count, calls, failed])),
             Verdict::No {
                 number,
                 place,
@@ -70,6 +70,29 @@ impl<'a> Judge<'a> {
         fitting.next().map(|_| "two endings or stops fit")
     }
 
+    /// Accepted, the calls are the records, plus one when *open*, or when *due* at an effect or a timer, and
+    /// every failed outcome counts.
+    fn wrong_counts(
+        &self,
+        records: &[RecordRef<'_>],
+        ending: Ending,
+        stop: u64,
+        counts: [u64; 3],
+    ) -> Option<&'static str> {
+        let more = match ending {
+            Ending::Open => 1,
+            Ending::Due => u64::from(!self.is_gate(stop)),
+            Ending::Unstarted | Ending::Done | Ending::Finished => 0,
+        };
+        let right = records.len() as u64;
+        let right = [right, right + more, failed_outcomes(records)];
+        (counts != right).then_some("accepted with another count")
+    }
+
+    fn is_gate(&self, step: u64) -> bool {
+        matches!(self.steps.get(step as usize), Some(Step::Gate { .. }))
+    }
+
     /// Refused at record p: the first p records begin a history, the first p + 1 none. It is 45 exactly
     /// where record p completes the run too soon. A divergence goes with 22 alone.
     fn not_refused_at(
@@ -90,8 +113,51 @@ impl<'a> Judge<'a> {
         if (divergence != 0) != (number == 22) {
             return Some("a divergence without 22, or 22 without one");
         }
-        let called = u64::from(number != 31);
-        (calls != p as u64 + called).then_some("refused with another count of calls")
+        self.wrong_calls(&records[..=p], [number, divergence, calls])
+    }
+
+    /// Refused at the last of these records. Where no call is made on it, number and divergence are fixed, and
+    /// neither 31 nor divergence 5 is given elsewhere. A call that is refused at a gate is 24 or 45.
+    fn wrong_calls(
+        &self,
+        records: &[RecordRef<'_>],
+        [number, divergence, calls]: [u64; 3],
+    ) -> Option<&'static str> {
+        let before = &records[..records.len() - 1];
+        let p = before.len() as u64;
+        let at_gate = matches!(self.next_step(before), Some(Step::Gate { .. }));
+        match self.without_a_call(records) {
+            Some(owed) if owed != (number, divergence) => {
+                Some("refused without a call, with another number or divergence")
+            }
+            None if number == 31 || divergence == 5 => {
+                Some("31 before the last step is whole, or divergence 5 not at a gate")
+            }
+            None if at_gate && !matches!(number, 24 | 45) => {
+                Some("refused by a call at a gate, with another number than 24 and 45")
+            }
+            owed => (calls != p + u64::from(owed.is_none()))
+                .then_some("refused with another count of calls"),
+        }
+    }
+
+    /// The number and the divergence, where the last of these records is refused and no call is made on it:
+    /// an opener or a marker after the last step, or at a gate.
+    fn without_a_call(&self, records: &[RecordRef<'_>]) -> Option<(u64, u64)> {
+        let (last, before) = records.split_last()?;
+        let marked = match last {
+            RecordRef::VersionMarker { seq, .. } => Some(seq.0),
+            RecordRef::EffectScheduled { .. } | RecordRef::TimerScheduled { .. } => None,
+            _ => return None,
+        };
+        let k = self.whole_boundaries(before)?;
+        match (self.steps.get(k as usize), marked) {
+            (None, _) => Some((31, 0)),
+            (Some(Step::Gate { .. }), None) => Some((22, 4)),
+            (Some(Step::Gate { .. }), Some(number)) if u64::from(number) != k => Some((22, 1)),
+            (Some(Step::Gate { .. }), Some(_)) => Some((22, 5)),
+            (Some(_), _) => None,
+        }
     }
 
     /// Whether the last of these records completes the run while a step is left.
@@ -104,10 +170,14 @@ impl<'a> Judge<'a> {
 
     /// Step k, where these records are `RunStarted` and the boundaries of steps 0 to k - 1, k < m.
     fn next_step(&self, records: &[RecordRef<'_>]) -> Option<&Step<'a>> {
-        // Each step before k has two records, so k follows from the count.
-        let k = records.len().saturating_sub(1) / 2;
-        let whole = records.len() == 1 + 2 * k && self.begins(records);
-        self.steps.get(k).filter(|_| whole)
+        let k = self.whole_boundaries(records)?;
+        self.steps.get(k as usize)
+    }
+
+    /// The k up to m for which these records are `RunStarted` and the boundaries of steps 0 to k - 1.
+    fn whole_boundaries(&self, records: &[RecordRef<'_>]) -> Option<u64> {
+        let form = self.forms.iter().find(|form| form.ends_after(records))?;
+        Some(form.stop)
     }
 
     fn begins(&self, records: &[RecordRef<'_>]) -> bool {
@@ -152,8 +222,7 @@ impl<'a> Judge<'a> {
         })
     }
 
-    /// The bytes that document 01 names for a boundary: boundary i has the records 1 + 2i
-    /// and 2 + 2i.
+    /// The bytes that document 01 names for a boundary. An effect's second record is its outcome.
     fn named<'r>(
         &'r self,
         records: &[RecordRef<'r>],
@@ -163,11 +232,13 @@ impl<'a> Judge<'a> {
     ) -> Option<Handover<'r>> {
         let at = boundary.min(stop) as usize;
         match self.steps.get(at) {
-            Some(Step::Effect { .. }) if boundary < stop => match records[2 + 2 * at] {
-                RecordRef::EffectCompleted { result, .. } => Some(Handover::Completed(result)),
-                RecordRef::EffectFailed { error, .. } => Some(Handover::Failed(error)),
-                _ => None,
-            },
+            Some(Step::Effect { .. }) if boundary < stop => {
+                match records[place_of(&self.steps, at) + 1] {
+                    RecordRef::EffectCompleted { result, .. } => Some(Handover::Completed(result)),
+                    RecordRef::EffectFailed { error, .. } => Some(Handover::Failed(error)),
+                    _ => None,
+                }
+            }
             Some(Step::Effect { input, .. })
                 if boundary == stop && matches!(ending, Ending::Due | Ending::Open) =>
             {
@@ -176,16 +247,4 @@ impl<'a> Judge<'a> {
             _ => Some(Handover::Refused(32)),
         }
     }
-}
-
-/// Accepted, the calls are the records, plus one when *due* or *open*, and every failed outcome counts.
-fn wrong_counts(
-    records: &[RecordRef<'_>],
-    ending: Ending,
-    counts: [u64; 3],
-) -> Option<&'static str> {
-    let more = u64::from(matches!(ending, Ending::Due | Ending::Open));
-    let right = records.len() as u64;
-    let right = [right, right + more, failed_outcomes(records)];
-    (counts != right).then_some("accepted with another count")
 }

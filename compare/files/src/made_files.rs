@@ -147,8 +147,9 @@ fn one_entry(compared: &mut Compared, format: Format, mut entry: Entry) {
     }
 }
 
-/// Three entries, each right, of a wrong kind, with a wrong field or both, a timer of 0, or a timer of
-/// 0 with a wrong field, and body bytes right or wrong: these show which check comes first.
+/// Three entries, each right, of a wrong kind, with a wrong field or both, a timer of 0, a timer of 0 with
+/// a wrong field, a gate or a gate with a wrong field, and body bytes right or wrong: these show which check
+/// comes first.
 fn orders(compared: &mut Compared) {
     for format in FORMATS {
         let right = empty_entry(format, 2);
@@ -160,10 +161,25 @@ fn orders(compared: &mut Compared) {
             ..empty_entry(format, 5)
         };
         let zero_and_field = Entry { a: 1, ..zero };
-        let choices = [right, kind, field, both, zero, zero_and_field];
-        for number in 0..216 {
+        let gate = Entry {
+            a: 3,
+            d: 1,
+            ..empty_entry(format, 9)
+        };
+        let gate_and_field = Entry { m: 1, ..gate };
+        let choices = [
+            right,
+            kind,
+            field,
+            both,
+            zero,
+            zero_and_field,
+            gate,
+            gate_and_field,
+        ];
+        for number in 0..512 {
             let mut file = File::new(format, 0);
-            file.entries = [number % 6, number / 6 % 6, number / 36]
+            file.entries = [number % 8, number / 8 % 8, number / 64]
                 .map(|choice: usize| choices[choice])
                 .to_vec();
             for bodies in [0, 1, 5] {
@@ -186,6 +202,7 @@ fn places(compared: &mut Compared) {
                 let wrong = [
                     (0, 0),
                     (0, 1),
+                    (0, 9),
                     (0, 10),
                     (1, 3),
                     (2, 1),

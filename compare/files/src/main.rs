@@ -2,12 +2,14 @@
 //! compares every answer.
 
 mod bench;
+mod cases;
 mod compared_files;
 mod damaged_files;
 mod damaged_list;
 mod edges;
 mod failures;
 mod files;
+mod gates;
 mod histories;
 mod judge;
 mod made_files;
@@ -30,6 +32,7 @@ mod too_soon;
 #[path = "../../src/values.rs"]
 mod values;
 mod verdicts;
+mod words;
 mod writing;
 
 use std::process::ExitCode;

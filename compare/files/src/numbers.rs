@@ -185,6 +185,7 @@ fn kept(format: Format, entry: &Entry) -> [u64; 5] {
         (Format::Journal, 7 | 8) => [0, 0, 0, 0, entry.m],
         (Format::Journal, _) => [0, a, s, low16, 0],
         (Format::Plan, 2) => [0, a, 0, low16, low32],
+        (Format::Plan, 9) => [0, a, 0, low16, 0],
         (Format::Plan, _) => [clock, 0, 0, entry.d, 0],
     }
 }
@@ -197,6 +198,7 @@ fn body_length(format: Format, entry: &Entry) -> Option<(bool, u64)> {
         (Format::Journal, 2 | 5 | 6 | 9) => Some((false, 0)),
         (Format::Plan, 5) if matches!(entry.clock, 1 | 2) => Some((false, 0)),
         (Format::Plan, 2) => Some((true, entry.d)),
+        (Format::Plan, 9) => Some((false, 0)),
         _ => None,
     }
 }

@@ -1,6 +1,6 @@
 //! Pairs of a journal and a plan: histories, runs that were completed too soon, both with damage, and damaged files.
 
-use waymaker_core::{ActivityKind, ClockCapability, EffectRequest, TimerSpec};
+use waymaker_core::{ActivityKind, ClockCapability, EffectRequest, GateId, TimerSpec};
 
 use crate::random::Random;
 use crate::reader::{Entry, Format, MOST_BYTES, Step};
@@ -36,9 +36,13 @@ pub fn body(random: &mut Random, most: usize) -> &'static [u8] {
 
 pub fn random_step(random: &mut Random, most_body: usize) -> Step<'static> {
     let deadline = random.any().max(1);
-    match random.below(6) {
+    match random.below(8) {
         0 => Step::Timer(TimerSpec::AfterBoot { ticks: deadline }),
         1 => Step::Timer(TimerSpec::AtPersistentTime { instant: deadline }),
+        2 | 3 => Step::Gate {
+            gate: GateId(random.any() as u16),
+            version: random.any() as u16,
+        },
         _ => {
             let input = body(random, most_body);
             let request = EffectRequest {
@@ -51,7 +55,7 @@ pub fn random_step(random: &mut Random, most_body: usize) -> Step<'static> {
     }
 }
 
-/// A step's opener with this number.
+/// A step's opener with this number; a gate's marker.
 pub fn opener(random: &mut Random, step: &Step<'_>, number: u32) -> Item {
     let (mut entry, _) = step_entry(step);
     entry.s = number;
@@ -61,15 +65,16 @@ pub fn opener(random: &mut Random, step: &Step<'_>, number: u32) -> Item {
     (entry, &[])
 }
 
-/// A step's outcome or firing with this number.
-pub fn closer(random: &mut Random, step: &Step<'_>, number: u32, most_body: usize) -> Item {
+/// A step's outcome or firing with this number; a gate has none.
+pub fn closer(random: &mut Random, step: &Step<'_>, number: u32, most_body: usize) -> Option<Item> {
     let kind = match step {
         Step::Effect { .. } => random.pick(&[3, 3, 4]),
         Step::Timer(_) => 6,
+        Step::Gate { .. } => return None,
     };
     let mut item = with_body(random, kind, most_body);
     item.0.s = number;
-    item
+    Some(item)
 }
 
 /// An entry of this kind with nothing but a body, if its kind has one.
@@ -103,7 +108,7 @@ pub fn history(
     let mut items = vec![started];
     for (number, step) in steps[..stop].iter().enumerate() {
         items.push(opener(random, step, number as u32));
-        items.push(closer(random, step, number as u32, most_body));
+        items.extend(closer(random, step, number as u32, most_body));
     }
     match random.below(4) {
         0 | 1 if stop < steps.len() => items.push(opener(random, &steps[stop], stop as u32)),
@@ -111,7 +116,8 @@ pub fn history(
             let kind = random.pick(&[7, 8]);
             items.push(with_body(random, kind, most_body));
             if random.one_in(3) {
-                items.push(after_the_end(random, steps, stop));
+                let item = after_the_end(random, &items, steps.get(stop));
+                items.push(item);
             }
         }
         _ => {}
@@ -120,27 +126,38 @@ pub fn history(
 }
 
 /// A terminal record, the opener of the step that is left, or any record.
-fn after_the_end(random: &mut Random, steps: &[Step<'_>], stop: usize) -> Item {
-    match (random.below(4), steps.get(stop)) {
+fn after_the_end(random: &mut Random, items: &[Item], step: Option<&Step<'_>>) -> Item {
+    match (random.below(4), step) {
         (0, _) => with_body(random, 7, 5),
         (1, _) => with_body(random, 8, 5),
-        (2, Some(step)) => opener(random, step, stop as u32),
-        _ => any_item(random, 1 + 2 * stop),
+        (2, Some(step)) => opener(random, step, number_after(items, 2)),
+        _ => any_item(random, items),
+    }
+}
+
+/// The number that a record of this kind has after these: the next one, or that of the last boundary.
+pub fn number_after(items: &[Item], kind: u8) -> u32 {
+    let numbered = items.iter().map(|(entry, _)| entry.kind);
+    let taken = numbered.filter(|kind| matches!(kind, 2 | 5 | 9)).count() as u32;
+    match kind {
+        1 | 7 | 8 => 0,
+        3 | 4 | 6 => taken.saturating_sub(1),
+        _ => taken,
     }
 }
 
 /// One change to the list of records; most leave the file readable.
 pub fn damage(random: &mut Random, items: &mut Vec<Item>) {
-    let at = random.below(items.len() as u64 + 1) as usize;
+    let at = damaged_place(random, items);
     if at == items.len() {
-        let item = any_item(random, items.len());
+        let item = any_item(random, items);
         return items.push(item);
     }
     match random.below(12) {
         0 => drop(items.remove(at)),
         1 => items.insert(at, items[at]),
-        2 => items.insert(at, any_item(random, at)),
-        3 => items[at] = any_item(random, at),
+        2 => items.insert(at, any_item(random, &items[..at])),
+        3 => items[at] = any_item(random, &items[..at]),
         4 => items.truncate(at),
         5 if at > 0 => items.swap(at, at - 1),
         6 => items[at].0.s = random.near(items[at].0.s.into()) as u32,
@@ -148,8 +165,17 @@ pub fn damage(random: &mut Random, items: &mut Vec<Item>) {
     }
 }
 
-/// A record of any kind, often with the number that is right at that place.
-fn any_item(random: &mut Random, at: usize) -> Item {
+/// Any place, or now and then the last marker's.
+fn damaged_place(random: &mut Random, items: &[Item]) -> usize {
+    let marker = items.iter().rposition(|(entry, _)| entry.kind == 9);
+    match marker {
+        Some(at) if random.one_in(4) => at,
+        _ => random.below(items.len() as u64 + 1) as usize,
+    }
+}
+
+/// A record of any kind, often with the number that is right after these.
+fn any_item(random: &mut Random, before: &[Item]) -> Item {
     let kind = random.pick(kinds(Format::Journal));
     let (with_body, body) = with_body(random, kind, 5);
     let mut entry = random_entry(random, Format::Journal, kind);
@@ -157,7 +183,7 @@ fn any_item(random: &mut Random, at: usize) -> Item {
         *length = with_body.m;
     }
     if entry.s != 0 && !random.one_in(4) {
-        entry.s = (at.saturating_sub(1) / 2) as u32;
+        entry.s = number_after(before, kind);
     }
     (entry, body)
 }
@@ -167,7 +193,8 @@ fn one_field(random: &mut Random, entry: &mut Entry) {
     let fields: &[u64] = match entry.kind {
         2 => &[1, 3, 4],
         5 => &[0, 3, 4],
-        1 | 9 => &[1, 3],
+        1 => &[1, 3],
+        9 => &[1, 2, 3],
         _ => &[2],
     };
     let field = if random.one_in(8) {

@@ -1,11 +1,10 @@
 //! The fixed list of pairs that is stored with the answers of the plain Rust.
 
-use std::ops::RangeInclusive;
-
-use waymaker_core::{ActivityKind, ClockCapability, EffectRequest, TimerSpec};
+use waymaker_core::{ActivityKind, ClockCapability, EffectRequest, GateId, TimerSpec};
 
 use crate::damaged_list;
-use crate::pairs::{BODIES, Item, Pair, journal_of};
+use crate::gates;
+use crate::pairs::{BODIES, Item, Pair, journal_of, number_after};
 use crate::random::Random;
 use crate::reader::{Entry, Format, Refused, Step, read_journal, read_plan};
 use crate::samples;
@@ -31,14 +30,10 @@ pub fn list() -> Vec<Bytes> {
     bench(&mut pairs);
     missing(&mut pairs);
     unreadable(&mut pairs);
-    endings(&mut pairs, ClockCapability::Persistent, 0..=5);
-    // A board with a boot clock only does not admit step 3.
-    endings(&mut pairs, ClockCapability::BootOnly, 3..=3);
-    pairs.extend(
-        too_soon::stored()
-            .into_iter()
-            .map(|case| (case.journal, case.plan)),
-    );
+    endings(&mut pairs);
+    for cases in [too_soon::stored(), gates::stored()] {
+        pairs.extend(cases.into_iter().map(|case| (case.journal, case.plan)));
+    }
     beyond(&mut pairs);
     barred(&mut pairs);
     one_wrong_record(&mut pairs);
@@ -46,13 +41,8 @@ pub fn list() -> Vec<Bytes> {
     wrong_fields(&mut pairs, ClockCapability::BootOnly, &[effect], 0);
     wrong_fields(&mut pairs, ClockCapability::BootOnly, &[boot, effect], 1);
     wrong_fields(&mut pairs, ClockCapability::BootOnly, &[boot], 0);
-    wrong_fields(
-        &mut pairs,
-        ClockCapability::BootOnly,
-        &[effect, persistent],
-        1,
-    );
-    wrong_fields(&mut pairs, ClockCapability::Persistent, &[effect, boot], 1);
+    wrong_fields(&mut pairs, ClockCapability::BootOnly, &[persistent], 0);
+    wrong_fields(&mut pairs, ClockCapability::Persistent, &[boot], 0);
     wrong_fields(&mut pairs, ClockCapability::Persistent, &[persistent], 0);
     bodies(&mut pairs);
     failures(&mut pairs);
@@ -91,6 +81,7 @@ pub fn entry(kind: u8, s: u32, body: &'static [u8]) -> Item {
     (entry, body)
 }
 
+/// A step's opener, or a gate's marker.
 pub fn opener(step: &Step<'_>, number: u32) -> Item {
     let (mut entry, _) = writing::step_entry(step);
     entry.s = number;
@@ -100,12 +91,13 @@ pub fn opener(step: &Step<'_>, number: u32) -> Item {
     (entry, &[])
 }
 
-/// The outcome or the firing; the effect with number 2 failed.
-fn closer(step: &Step<'_>, number: u32) -> Item {
+/// The outcome or the firing; the effect with number 2 failed. A gate has none.
+fn closer(step: &Step<'_>, number: u32) -> Option<Item> {
     match step {
-        Step::Effect { .. } if number == 2 => entry(4, number, &[4, 5]),
-        Step::Effect { .. } => entry(3, number, &[9]),
-        Step::Timer(_) => entry(6, number, &[]),
+        Step::Effect { .. } if number == 2 => Some(entry(4, number, &[4, 5])),
+        Step::Effect { .. } => Some(entry(3, number, &[9])),
+        Step::Timer(_) => Some(entry(6, number, &[])),
+        Step::Gate { .. } => None,
     }
 }
 
@@ -113,7 +105,8 @@ fn closer(step: &Step<'_>, number: u32) -> Item {
 pub fn before(steps: &[Step<'_>], stop: usize) -> Vec<Item> {
     let mut items = vec![entry(1, 0, &[8])];
     for (step, number) in steps[..stop].iter().zip(0..) {
-        items.extend([opener(step, number), closer(step, number)]);
+        items.push(opener(step, number));
+        items.extend(closer(step, number));
     }
     items
 }
@@ -186,11 +179,11 @@ fn unreadable(pairs: &mut Vec<Bytes>) {
     }
 }
 
-/// Due or done, open and a terminal record at these stops. At an even stop the run failed; at 1 and 3, before a
+/// Due or done, open and a terminal record at each stop. At an even stop the run failed; at 1 and 3, before a
 /// timer, it completed too soon; at 5 it completed after the last step.
-fn endings(pairs: &mut Vec<Bytes>, capability: ClockCapability, stops: RangeInclusive<usize>) {
-    let steps = steps();
-    for stop in stops {
+fn endings(pairs: &mut Vec<Bytes>) {
+    let (capability, steps) = (ClockCapability::Persistent, steps());
+    for stop in 0..=steps.len() {
         let before = before(&steps, stop);
         let mut last = vec![entry(8 - (stop % 2) as u8, 0, &[6; 3])];
         last.extend(steps.get(stop).map(|step| opener(step, stop as u32)));
@@ -238,24 +231,20 @@ fn barred(pairs: &mut Vec<Bytes>) {
     }
 }
 
-/// Every kind of record in the place of each record, after the last one and after the end.
+/// Every kind of record in the place of each record and after the last one.
 fn one_wrong_record(pairs: &mut Vec<Bytes>) {
     let [_, boot, effect, ..] = steps();
     let steps = &[effect, boot];
-    let mut whole = bare(before(steps, 2));
-    whole.push(entry(7, 0, &[]));
+    let whole = bare(before(steps, 2));
     for place in 0..=whole.len() {
         for kind in 1..=9 {
-            let number = match kind {
-                1 | 7 | 8 => 0,
-                _ => (place as u32).saturating_sub(1) / 2,
-            };
-            let record = entry(kind, number, &[]);
+            let before = &whole[..place];
+            let record = entry(kind, number_after(before, kind), &[]);
             push(
                 pairs,
                 ClockCapability::Persistent,
                 steps,
-                &[&whole[..place], &[record]].concat(),
+                &[before, &[record]].concat(),
             );
         }
     }
@@ -283,7 +272,7 @@ fn wrong_fields(
         pairs,
         capability,
         steps,
-        &[&before[..], &[(right, &[]), late]].concat(),
+        &[&before[..], &[(right, &[])], late.as_slice()].concat(),
     );
 }
 
@@ -345,20 +334,30 @@ fn failures(pairs: &mut Vec<Bytes>) {
     }
 }
 
-/// 1,024 records in 32,768 bytes, the last step open; fewer records, of which the last does
-/// not fit; and a plan of 1,024 steps.
+/// 1,024 records in 32,768 bytes: two gates, then effects and gates by turns, the last effect open; numbers
+/// that are right in 8 or 16 bits alone; and a plan of 1,024 steps.
 fn longest(pairs: &mut Vec<Bytes>) {
+    let gate = Step::Gate {
+        gate: GateId(0),
+        version: 0,
+    };
     let step = effect(0, &[], 0);
-    let steps = vec![step; 512];
+    let mut steps = vec![gate; 2];
+    steps.extend([step, gate].repeat(341));
     let mut items = vec![entry(1, 0, &[0x77; 8_176])];
-    for number in 0..511 {
-        items.extend([opener(&step, number), entry(3, number, &[])]);
+    for (number, step) in (0..682).zip(&steps) {
+        items.push(opener(step, number));
+        items.extend(closer(step, number));
     }
-    items.push(opener(&step, 511));
+    let mut items = [&items[..1], &bare(items[1..].to_vec())].concat();
+    items.push(opener(&step, 682));
     push(pairs, ClockCapability::BootOnly, &steps, &items);
-    items.truncate(259);
-    items.push(opener(&step, 130));
-    push(pairs, ClockCapability::BootOnly, &steps, &items);
+    for number in [256, 65_536] {
+        for step in [gate, step] {
+            let items = [entry(1, 0, &[]), opener(&step, number)];
+            push(pairs, ClockCapability::BootOnly, &[step], &items);
+        }
+    }
     let mut steps = vec![effect(1, &[0x33; 8], 1); 1_022];
     steps.extend([step; 2]);
     push(

@@ -3,11 +3,13 @@
 use std::fmt::Debug;
 use std::process;
 
+use crate::histories::boundaries_before;
 use crate::numbers;
 use crate::proved;
-use crate::reader::Format;
-use crate::resume::{Verdict, handover, verdict};
+use crate::reader::{Format, Step, read_plan};
+use crate::resume::{Ending, Verdict, handover, verdict};
 use crate::text::items;
+use crate::words::{another_marker, completed_at, marker_due};
 
 /// Compares the proved verdict, where the library has it, with this one.
 pub fn same_verdict(verdict: &Verdict, journal: impl FnOnce() -> Vec<u8>, plan: &[u8]) {
@@ -41,8 +43,8 @@ pub fn same_pair(journal: &[u8], plan: &[u8], boundaries: impl Iterator<Item = u
     verdict
 }
 
-/// Compares the proved line with this one, the words of a run that was completed too soon with those that
-/// are owed, and of line and words that they come whole or not at all.
+/// Compares the proved line with this one, the words with those that are owed where they are known, and of
+/// line and words that they come whole or not at all.
 fn same_texts(verdict: &Verdict, journal: &[u8], plan: &[u8]) {
     let line = whole(|text| proved::line(journal, plan, text));
     let words = whole(|text| proved::words(journal, plan, text));
@@ -51,7 +53,7 @@ fn same_texts(verdict: &Verdict, journal: &[u8], plan: &[u8]) {
         (None, None) => {}
         (Some(Ok(line)), Some(Ok(words)))
             if line == rust.as_bytes()
-                && too_soon_words(verdict).is_none_or(|owed| words == owed.as_bytes()) => {}
+                && owed_words(verdict, plan).is_none_or(|owed| words == owed.as_bytes()) => {}
         (line, words) => {
             let what = format!("Rust:   {rust:?}\nProved: {line:?}, {words:?}");
             differ_on_pair(&what, journal, plan);
@@ -59,25 +61,40 @@ fn same_texts(verdict: &Verdict, journal: &[u8], plan: &[u8]) {
     }
 }
 
-/// The words for 45. They name the step: the start is one record, and each step before has two.
-fn too_soon_words(verdict: &Verdict) -> Option<String> {
+/// The words for a gate that is due, for 45 and for the marker of another gate or version. Those for 45 name
+/// the step: as many boundaries are whole before the record.
+fn owed_words(verdict: &Verdict, plan: &[u8]) -> Option<String> {
+    let steps = || read_plan(plan).ok().map(|plan| plan.steps());
     match *verdict {
+        Verdict::Ok {
+            ending: Ending::Due,
+            stop,
+            failed,
+            ..
+        } => match steps()?.nth(stop as usize)? {
+            Step::Gate { gate, .. } => Some(marker_due(gate.0, failed)),
+            Step::Effect { .. } | Step::Timer(_) => None,
+        },
         Verdict::No {
             number: 45, place, ..
-        } => Some(completed_at(place / 2)),
+        } => {
+            let steps: Vec<Step> = steps()?.collect();
+            Some(completed_at(
+                boundaries_before(&steps, place as usize) as u64
+            ))
+        }
+        Verdict::No {
+            number: 22,
+            divergence: 5,
+            place,
+            ..
+        } => Some(another_marker(place)),
         _ => None,
     }
 }
 
-fn completed_at(step: u64) -> String {
-    format!(
-        "Each step matches the plan: the run was completed at step {step} of the plan, before its last"
-    )
-}
-
-/// Compares the proved words with those of a run that was completed at this step.
-pub fn same_step(step: u64, journal: &[u8], plan: &[u8]) {
-    let owed = completed_at(step);
+/// Compares the proved words with these.
+pub fn same_words(owed: &str, journal: &[u8], plan: &[u8]) {
     let words = whole(|text| proved::words(journal, plan, text));
     if words.is_some_and(|words| words.as_deref() != Ok(owed.as_bytes())) {
         differ_on_pair(&format!("Owed: {owed}"), journal, plan);

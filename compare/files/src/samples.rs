@@ -20,7 +20,7 @@ pub fn worked(format: Format) -> Vec<u8> {
 pub fn kinds(format: Format) -> &'static [u8] {
     match format {
         Format::Journal => &[1, 2, 3, 4, 5, 6, 7, 8, 9],
-        Format::Plan => &[2, 5],
+        Format::Plan => &[2, 5, 9],
     }
 }
 

@@ -26,7 +26,8 @@ pub fn run(settings: &Settings) -> String {
         boot(5),
         persistent(5),
         effect(2, 1, 6),
-        boot(6),
+        gate(1, 3),
+        gate(2, 4),
     ];
     let alphabet = letters(&[0, 1, 2, 3, u32::MAX], true);
     let (mut followed, mut failures) = (0, Failures::default());
@@ -49,7 +50,7 @@ pub fn run(settings: &Settings) -> String {
 
 /// Every list up to this many records, over the smaller alphabet.
 fn every_list(depth: u32) -> u64 {
-    let steps = [effect(1, 0, 5), boot(5), persistent(5)];
+    let steps = [effect(1, 0, 5), boot(5), persistent(5), gate(1, 3)];
     let alphabet = letters(&[0, 1, 2], false);
     let mut lists = 0;
     for_each_plan(&steps, |scope| {
@@ -93,8 +94,15 @@ fn persistent(instant: u64) -> Step<'static> {
     Step::Timer(TimerSpec::AtPersistentTime { instant })
 }
 
-/// All nine kinds with these numbers: right and wrong activities, lengths, CRCs, clocks and
-/// deadlines. With `free` also other values of what a history leaves free.
+fn gate(gate: u16, version: u16) -> Step<'static> {
+    Step::Gate {
+        gate: GateId(gate),
+        version,
+    }
+}
+
+/// All nine kinds with these numbers: right and wrong activities, lengths, CRCs, clocks, deadlines, gates
+/// and versions. With `free` more of these, and other values of what a history leaves free.
 fn letters(numbers: &[u32], free: bool) -> Vec<RecordRef<'static>> {
     let mut letters = vec![
         started(3, &[]),
@@ -105,7 +113,7 @@ fn letters(numbers: &[u32], free: bool) -> Vec<RecordRef<'static>> {
         letters.push(started(4, &[1, 2]));
     }
     for seq in numbers.iter().map(|number| EffectSeq(*number)) {
-        effects(&mut letters, seq);
+        effects(&mut letters, seq, free);
         timers(&mut letters, seq, free);
         letters.push(RecordRef::EffectCompleted { seq, result: &[] });
         letters.push(RecordRef::EffectFailed { seq, error: &[2] });
@@ -114,11 +122,7 @@ fn letters(numbers: &[u32], free: bool) -> Vec<RecordRef<'static>> {
             letters.push(RecordRef::EffectCompleted { seq, result });
         }
         letters.push(RecordRef::TimerFired { seq });
-        letters.push(RecordRef::VersionMarker {
-            seq,
-            gate: GateId(1),
-            version: 1,
-        });
+        markers(&mut letters, seq, free);
     }
     letters
 }
@@ -131,32 +135,53 @@ fn started(workflow_kind: u16, input: &'static [u8]) -> RecordRef<'static> {
     }
 }
 
-fn effects(letters: &mut Vec<RecordRef<'static>>, seq: EffectSeq) {
+fn effects(letters: &mut Vec<RecordRef<'static>>, seq: EffectSeq, free: bool) {
     let wanted = [(1, 0, 5), (2, 0, 5), (1, 1, 5), (1, 0, 6), (2, 1, 6)];
-    letters.extend(
-        wanted.map(|(kind, input_len, input_crc)| RecordRef::EffectScheduled {
+    for (kind, input_len, input_crc) in &wanted[..if free { 5 } else { 4 }] {
+        letters.push(RecordRef::EffectScheduled {
             seq,
-            kind: ActivityKind(kind),
-            input_len,
-            input_crc,
-        }),
-    );
+            kind: ActivityKind(*kind),
+            input_len: *input_len,
+            input_crc: *input_crc,
+        });
+    }
 }
 
+/// The last seven stand there with `free` alone.
 fn timers(letters: &mut Vec<RecordRef<'static>>, seq: EffectSeq, free: bool) {
-    let (clocks, armed): (&[u8], &[u64]) = match free {
-        true => (&[0, 1, 2, 3, 255], &[100, u64::MAX]),
-        false => (&[1, 2, 3], &[100]),
-    };
-    for clock in clocks {
-        for deadline in [5, 6] {
-            letters.extend(armed.iter().map(|armed_at| RecordRef::TimerScheduled {
-                seq,
-                clock_kind: ClockKind(*clock),
-                deadline,
-                armed_at: *armed_at,
-            }));
-        }
+    let wanted = [
+        (1, 5, 100),
+        (2, 5, 100),
+        (3, 5, 100),
+        (1, 6, 100),
+        (2, 6, 100),
+        (0, 5, 100),
+        (3, 6, 100),
+        (255, 5, 100),
+        (1, 5, u64::MAX),
+        (2, 5, u64::MAX),
+        (2, 6, u64::MAX),
+    ];
+    for (clock, deadline, armed_at) in &wanted[..if free { 11 } else { 4 }] {
+        letters.push(RecordRef::TimerScheduled {
+            seq,
+            clock_kind: ClockKind(*clock),
+            deadline: *deadline,
+            armed_at: *armed_at,
+        });
+    }
+}
+
+/// The first is the marker of the one gate, the fourth that of the other; the last has gate and version
+/// exchanged.
+fn markers(letters: &mut Vec<RecordRef<'static>>, seq: EffectSeq, free: bool) {
+    let wanted = [(1, 3), (2, 3), (1, 4), (2, 4), (3, 1)];
+    for (gate, version) in &wanted[..if free { 5 } else { 3 }] {
+        letters.push(RecordRef::VersionMarker {
+            seq,
+            gate: GateId(*gate),
+            version: *version,
+        });
     }
 }
 
@@ -237,9 +262,11 @@ impl Scope {
             .add(judge.capability, &judge.steps, &self.records, &verdict);
         match verdict {
             Verdict::Ok { ending, stop, .. } => self.check_handovers(&verdict, ending, stop),
-            Verdict::No {
-                number: 45, place, ..
-            } if place + 1 == self.records.len() as u64 => drop(self.check_bytes(&verdict)),
+            Verdict::No { place, .. }
+                if has_words(&verdict) && place + 1 == self.records.len() as u64 =>
+            {
+                drop(self.check_bytes(&verdict));
+            }
             Verdict::No { .. } => same_verdict(&verdict, || self.journal(), &self.plan),
         }
         verdict
@@ -277,4 +304,12 @@ impl Scope {
     fn wrong(&self, what: &str) -> ! {
         differ_on_pair(what, &self.journal(), &self.plan);
     }
+}
+
+/// Whether the words of this refusal are owed: completed too soon, the marker of another gate or version.
+fn has_words(verdict: &Verdict) -> bool {
+    matches!(
+        verdict,
+        Verdict::No { number: 45, .. } | Verdict::No { divergence: 5, .. }
+    )
 }

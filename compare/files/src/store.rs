@@ -19,10 +19,11 @@ const READING: [u64; 18] = [
     1, 2, 3, 4, 6, 7, 8, 9, 11, 12, 13, 14, 15, 16, 17, 18, 44, 19,
 ];
 /// The numbers, each with its divergence, that a readable pair can be refused with.
-const REFUSALS: [(u64, u64); 11] = [
+const REFUSALS: [(u64, u64); 12] = [
     (22, 1),
     (22, 2),
     (22, 4),
+    (22, 5),
     (22, 6),
     (22, 8),
     (22, 9),

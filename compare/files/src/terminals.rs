@@ -6,6 +6,7 @@ use std::ops::Range;
 use waymaker_core::{ClockCapability, RecordRef, TimerSpec};
 
 use crate::failures::records_of;
+use crate::histories::boundaries_before;
 use crate::reader::{Step, read_plan};
 use crate::resume::Verdict;
 
@@ -13,12 +14,12 @@ use crate::resume::Verdict;
 /// completed, or it failed.
 #[derive(Default)]
 pub struct Terminals {
-    /// By board, and by where the record stands: at an effect, a boot timer, a persistent timer; the same
-    /// as the plan's last step; after the last step; in an empty plan.
-    stands: [[[u64; 2]; 8]; 2],
-    /// At an effect, at a timer, after the last step, and by what follows: nothing, a completion, a failure
-    /// of the run, an opener, another record.
-    followed: [[[u64; 2]; 5]; 3],
+    /// By board, and by where the record stands: at an effect, a boot timer, a persistent timer, a gate; the
+    /// same as the plan's last step; after the last step; in an empty plan.
+    stands: [[[u64; 2]; 10]; 2],
+    /// At an effect, at a timer, at a gate, after the last step, and by what follows: nothing, a completion, a
+    /// failure of the run, an opener, another record.
+    followed: [[[u64; 2]; 5]; 4],
 }
 
 impl Terminals {
@@ -33,15 +34,15 @@ impl Terminals {
             return;
         };
         let failed = usize::from(matches!(records[at], RecordRef::RunFailed { .. }));
-        // The start is one record, and each step before has two.
-        let (k, m) = (at / 2, steps.len());
+        let (k, m) = (boundaries_before(steps, at), steps.len());
         let (stands, group) = match steps.get(k) {
             Some(Step::Effect { .. }) => (0, 0),
             Some(Step::Timer(TimerSpec::AfterBoot { .. })) => (1, 1),
             Some(Step::Timer(TimerSpec::AtPersistentTime { .. })) => (2, 1),
-            None => (6 + usize::from(m == 0), 2),
+            Some(Step::Gate { .. }) => (3, 2),
+            None => (8 + usize::from(m == 0), 3),
         };
-        let last = 3 * usize::from(k + 1 == m);
+        let last = 4 * usize::from(k + 1 == m);
         self.stands[capability as usize][stands + last][failed] += 1;
         self.followed[group][follower(records.get(at + 1))][failed] += 1;
     }
@@ -71,11 +72,13 @@ impl Terminals {
 
     pub fn told(&self) -> String {
         format!(
-            "run completed at a step {}, failed at a step {}, completed after the last step {}, failed after it {}",
-            self.count(0..2, 0),
-            self.count(0..2, 1),
+            "run completed at a step {}, failed at a step {}, completed at a gate {}, failed at a gate {}, completed after the last step {}, failed after it {}",
+            self.count(0..3, 0),
+            self.count(0..3, 1),
             self.count(2..3, 0),
-            self.count(2..3, 1)
+            self.count(2..3, 1),
+            self.count(3..4, 0),
+            self.count(3..4, 1)
         )
     }
 

@@ -3,33 +3,24 @@
 
 use std::fmt::Write;
 
-/// The lengths of which repeats are looked for: a byte, an entry, a boundary.
-const LENGTHS: [usize; 3] = [1, 24, 48];
+/// The lengths of which repeats are looked for: some bytes, an entry, two and three of them.
+const LENGTHS: [usize; 10] = [1, 2, 3, 4, 6, 8, 12, 24, 48, 72];
 
-/// The items of a file.
+/// The items of a file, chosen for the least text with repeats of these lengths.
 pub fn items(file: &[u8]) -> String {
+    let shortest = Shortest::of(file);
     let mut text = String::new();
-    let mut plain = 0;
     let mut at = 0;
     while at < file.len() {
-        match repeated(&file[at..]) {
-            Some((length, times)) => {
-                item(&mut text, &file[plain..at], 1);
-                item(&mut text, &file[at..at + length], times);
-                at += length * times;
-                plain = at;
-            }
-            None => at += 1,
-        }
+        let (length, times) = shortest.item_at(at);
+        item(&mut text, &file[at..at + length], times);
+        at += length * times;
     }
-    item(&mut text, &file[plain..], 1);
+    assert!(bytes(&text) == file, "the text says other bytes");
     text
 }
 
 fn item(text: &mut String, bytes: &[u8], times: usize) {
-    if bytes.is_empty() {
-        return;
-    }
     if !text.is_empty() {
         text.push(' ');
     }
@@ -41,23 +32,60 @@ fn item(text: &mut String, bytes: &[u8], times: usize) {
     }
 }
 
-/// A repeat at the start of these bytes that makes the text shorter: its length, and how
-/// often. Of several repeats the one that saves most is taken.
-fn repeated(bytes: &[u8]) -> Option<(usize, usize)> {
-    LENGTHS
-        .into_iter()
-        .filter(|length| bytes.len() >= 2 * length)
-        .map(|length| (length, times(bytes, length)))
-        .filter(|(length, times)| length * times >= length + 4)
-        .max_by_key(|(length, times)| length * (times - 1))
+/// For each place of a file the least text for the bytes from there on, with a space before each item.
+struct Shortest {
+    /// Where an item begins.
+    rest: Vec<usize>,
+    /// Where plain bytes may go on.
+    inside: Vec<usize>,
+    /// The repeat with which the item begins, none for plain bytes.
+    repeat: Vec<Option<(usize, usize)>>,
 }
 
-fn times(bytes: &[u8], length: usize) -> usize {
-    let first = &bytes[..length];
-    bytes
-        .chunks_exact(length)
-        .take_while(|chunk| *chunk == first)
-        .count()
+impl Shortest {
+    fn of(file: &[u8]) -> Shortest {
+        let end = file.len();
+        let mut shortest = Shortest {
+            rest: vec![0; end + 1],
+            inside: vec![0; end + 1],
+            repeat: vec![None; end],
+        };
+        // How many bytes from here on equal the byte one length later.
+        let mut equal = [0; LENGTHS.len()];
+        for at in (0..end).rev() {
+            shortest.rest[at] = 3 + shortest.inside[at + 1];
+            for (length, equal) in LENGTHS.into_iter().zip(&mut equal) {
+                let same = file.get(at + length) == Some(&file[at]);
+                *equal = if same { *equal + 1 } else { 0 };
+                shortest.repeats(at, length, *equal / length + 1);
+            }
+            shortest.inside[at] = usize::min(2 + shortest.inside[at + 1], shortest.rest[at]);
+        }
+        shortest
+    }
+
+    /// Tries the repeats of this length at this place, of which there are at most so many. Those that
+    /// matter are most of them, and few or as many as have one digit less.
+    fn repeats(&mut self, at: usize, length: usize, most: usize) {
+        let tried = [most, most.saturating_sub(1), 2, 3, 9, 99, 999, 9_999];
+        for times in tried.into_iter().filter(|times| (2..=most).contains(times)) {
+            let digits = times.ilog10() as usize + 1;
+            let text = 2 + 2 * length + digits + self.rest[at + length * times];
+            if text < self.rest[at] {
+                self.rest[at] = text;
+                self.repeat[at] = Some((length, times));
+            }
+        }
+    }
+
+    /// The length of the item that begins here, and how often it stands there.
+    fn item_at(&self, at: usize) -> (usize, usize) {
+        self.repeat[at].unwrap_or_else(|| {
+            let plain = (at + 1..self.repeat.len())
+                .take_while(|place| self.inside[*place] < self.rest[*place]);
+            (1 + plain.count(), 1)
+        })
+    }
 }
 
 /// The bytes of a text of items.

@@ -2,36 +2,21 @@
 //! It is written out from document 02 ("Completed too soon"), by counting records: neither the
 //! procedure nor the definition of histories has a part in it.
 
-use waymaker_core::{ClockCapability, TimerSpec};
+use waymaker_core::{ClockCapability, GateId, TimerSpec};
 
+use crate::cases::Case;
 use crate::failures::{failed_outcomes, records_of};
 use crate::pairs::{Item, journal_of};
 use crate::pairs_list::{RUN, bare, before, effect, entry, opener};
 use crate::reader::Step;
 use crate::samples::WORKED_PLAN;
 use crate::text::bytes;
+use crate::words::completed_at;
 use crate::writing;
 
-const BOARDS: [ClockCapability; 2] = [ClockCapability::BootOnly, ClockCapability::Persistent];
+pub const BOARDS: [ClockCapability; 2] = [ClockCapability::BootOnly, ClockCapability::Persistent];
 const COMPLETED: u8 = 7;
 const FAILED: u8 = 8;
-
-/// A pair, and the verdict's line.
-pub struct Case {
-    pub journal: Vec<u8>,
-    pub plan: Vec<u8>,
-    pub line: String,
-    /// The step at which the run was completed too soon.
-    pub step: Option<u64>,
-}
-
-impl Case {
-    /// The number, where the line refuses the pair.
-    pub fn refused(&self) -> Option<u64> {
-        let mut words = self.line.strip_prefix("no ")?.split(' ');
-        words.next()?.parse().ok()
-    }
-}
 
 /// A journal, a plan and its line in document 01's notation. One step: completed twice, completed once,
 /// failed, failed and completed; a persistent timer on a board that has a boot clock only: completed,
@@ -96,7 +81,7 @@ pub fn cases() -> Vec<Case> {
         }
         plans = plans.iter().flat_map(|plan| longer(plan)).collect();
     }
-    let [effect, boot, _] = steps();
+    let [effect, boot, _, gate] = steps();
     let longest: Vec<Step> = [effect, boot].into_iter().cycle().take(512).collect();
     for stop in [40, 149, 150] {
         made.ended(
@@ -106,9 +91,12 @@ pub fn cases() -> Vec<Case> {
             &[COMPLETED],
         );
     }
-    // At stop 511 the terminal record is the last that a journal may have.
+    // At stop 511 the terminal record is the last that a journal may have; with gates at 1,022.
     for stop in [127, 128, 255, 256, 511] {
         made.ended(ClockCapability::BootOnly, &longest, stop, &[]);
+    }
+    for stop in [255, 256, 511, 512, 1_022] {
+        made.ended(ClockCapability::BootOnly, &[gate; 1_023], stop, &[]);
     }
     made.cases
 }
@@ -117,7 +105,7 @@ pub fn cases() -> Vec<Case> {
 /// printed have a board with a boot clock only.
 pub fn stored() -> Vec<Case> {
     let mut made = Made::new(false);
-    let [_, boot, persistent] = steps();
+    let [_, boot, persistent, gate] = steps();
     let effect = effect(0, &[], 0);
     let next = &[COMPLETED, FAILED, 2, 9];
     for capability in BOARDS {
@@ -126,6 +114,8 @@ pub fn stored() -> Vec<Case> {
             &[effect, boot],
             &[boot, effect],
             &[persistent, effect],
+            &[gate, effect],
+            &[gate],
         ] {
             made.ended(capability, steps, 0, &[]);
         }
@@ -135,20 +125,25 @@ pub fn stored() -> Vec<Case> {
     made.ended(ClockCapability::BootOnly, &[persistent], 0, next);
     made.ended(ClockCapability::Persistent, &[effect], 0, next);
     made.ended(ClockCapability::BootOnly, &[effect], 1, next);
+    made.ended(ClockCapability::Persistent, &[gate, gate], 1, next);
     made.cases
 }
 
-/// An effect, a boot timer, a persistent timer.
-fn steps() -> [Step<'static>; 3] {
+/// An effect, a boot timer, a persistent timer, a gate.
+fn steps() -> [Step<'static>; 4] {
     [
         effect(5, &[1, 2, 3], 0),
         Step::Timer(TimerSpec::AfterBoot { ticks: 5 }),
         Step::Timer(TimerSpec::AtPersistentTime { instant: 105 }),
+        Step::Gate {
+            gate: GateId(3),
+            version: 2,
+        },
     ]
 }
 
 /// This plan with each step added.
-fn longer(plan: &[Step<'static>]) -> [Vec<Step<'static>>; 3] {
+fn longer(plan: &[Step<'static>]) -> [Vec<Step<'static>>; 4] {
     steps().map(|step| [plan, &[step]].concat())
 }
 
@@ -166,7 +161,8 @@ impl Made {
             journal: bytes(journal),
             plan: bytes(plan),
             line: line.to_string(),
-            step: line.starts_with("no 45").then_some(0),
+            words: line.starts_with("no 45").then(|| completed_at(0)),
+            handed: Vec::new(),
         };
         Made {
             cases: PRINTED.iter().map(case).collect(),
@@ -195,6 +191,7 @@ impl Made {
     ) {
         for terminal in [COMPLETED, FAILED] {
             let mut items = before(steps, stop);
+            let place = items.len();
             items.push(entry(terminal, 0, &[6; 3]));
             let too_soon = terminal == COMPLETED && stop < steps.len();
             for next in [None].into_iter().chain(next.iter().map(Some)) {
@@ -203,8 +200,9 @@ impl Made {
                 let items = if self.bodies { items } else { bare(items) };
                 let journal = journal_of(RUN, &items).bytes();
                 self.cases.push(Case {
-                    line: owed(&journal, stop, too_soon, next.is_some()),
-                    step: too_soon.then_some(stop as u64),
+                    line: owed(&journal, (place, stop), too_soon, next.is_some()),
+                    words: too_soon.then(|| completed_at(stop as u64)),
+                    handed: Vec::new(),
                     journal,
                     plan: writing::plan(capability, steps).bytes(),
                 });
@@ -213,7 +211,7 @@ impl Made {
     }
 }
 
-/// A record of this kind with the next number; the step's own opener if it is of that kind.
+/// A record of this kind with the next number; the step's own opener or marker if it is of that kind.
 fn record(kind: u8, step: Option<&Step<'_>>, number: u32) -> Item {
     let opener = step.map(|step| opener(step, number));
     match (opener, kind) {
@@ -223,9 +221,8 @@ fn record(kind: u8, step: Option<&Step<'_>>, number: u32) -> Item {
     }
 }
 
-/// The line: the start is one record, and each step before the terminal one has two.
-fn owed(journal: &[u8], stop: usize, too_soon: bool, followed: bool) -> String {
-    let place = 1 + 2 * stop;
+/// The line of a journal with a terminal record at this place and stop.
+fn owed(journal: &[u8], (place, stop): (usize, usize), too_soon: bool, followed: bool) -> String {
     match (too_soon, followed) {
         (true, _) => format!("no 45 {place} 0 {}", place + 1),
         (false, true) => format!("no 24 {} 0 {}", place + 1, place + 2),
@@ -237,7 +234,7 @@ fn owed(journal: &[u8], stop: usize, too_soon: bool, followed: bool) -> String {
 }
 
 /// A persistent timer on a board that has a boot clock only.
-fn barred(capability: ClockCapability, step: &Step<'_>) -> bool {
+pub fn barred(capability: ClockCapability, step: &Step<'_>) -> bool {
     let persistent = matches!(step, Step::Timer(TimerSpec::AtPersistentTime { .. }));
     persistent && capability == ClockCapability::BootOnly
 }

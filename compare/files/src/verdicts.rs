@@ -6,17 +6,19 @@ use std::fmt::Write;
 use waymaker_core::RecordRef;
 
 use crate::Settings;
+use crate::cases::Case;
 use crate::failures::{Failures, failed_outcomes, records_of};
+use crate::gates;
 use crate::judge::Judge;
 use crate::pairs::{Pair, journal_of};
 use crate::pairs_list;
 use crate::random::Random;
 use crate::reader::{MOST_BYTES, Step, read_journal, read_plan};
-use crate::report::{differ_on_pair, same_pair, same_step};
+use crate::report::{differ_on_pair, same_pair, same_words};
 use crate::resume::{Handover, Verdict, handover};
 use crate::samples;
 use crate::terminals::Terminals;
-use crate::too_soon::{self, Case};
+use crate::too_soon;
 use crate::writing;
 
 /// Pairs whose plan has up to so many steps are also checked against the definition.
@@ -28,8 +30,13 @@ pub fn run(settings: &Settings) -> String {
     for (journal, plan) in pairs_list::list() {
         compared.pair(&journal, &plan);
     }
-    for case in too_soon::cases().into_iter().chain(too_soon::stored()) {
-        compared.owed(&case);
+    for cases in [
+        too_soon::cases(),
+        too_soon::stored(),
+        gates::cases(),
+        gates::stored(),
+    ] {
+        cases.iter().for_each(|case| compared.owed(case));
     }
     for _ in 0..settings.pairs {
         let steps = random.below(9) as usize;
@@ -37,7 +44,7 @@ pub fn run(settings: &Settings) -> String {
         compared.generated(&mut random, &pair);
     }
     for _ in 0..settings.pairs / 500 {
-        let steps = random.pick(&[20, 200, 511, 512]);
+        let steps = random.pick(&[20, 200, 511, 512, 580]);
         let most_body = random.pick(&[0, 3, 15]);
         let pair = Pair::at_random(&mut random, steps, most_body);
         compared.generated(&mut random, &pair);
@@ -72,7 +79,8 @@ impl Compared {
         self.pair(&journal, &plan);
     }
 
-    /// The pair; its line is the one that is written out, and where that refuses it, no boundary has bytes.
+    /// The pair; its line, words and handovers are those that are written out, and where that line refuses it,
+    /// no boundary has bytes.
     fn owed(&mut self, case: &Case) {
         let (journal, plan) = (&case.journal[..], &case.plan[..]);
         let said = self.pair(journal, plan).to_string();
@@ -80,8 +88,15 @@ impl Compared {
             let what = format!("Owed:   {}\nRust:   {said}", case.line);
             differ_on_pair(&what, journal, plan);
         }
-        if let Some(step) = case.step {
-            same_step(step, journal, plan);
+        if let Some(words) = &case.words {
+            same_words(words, journal, plan);
+        }
+        for (boundary, owed) in (0..).zip(&case.handed) {
+            let said = handover(journal, plan, boundary);
+            if said != *owed {
+                let what = format!("handover of {boundary}\nOwed:   {owed:?}\nRust:   {said:?}");
+                differ_on_pair(&what, journal, plan);
+            }
         }
         if let Some(number) = case.refused()
             && (0..5).any(|at| handover(journal, plan, at) != Handover::Refused(number))

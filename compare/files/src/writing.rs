@@ -168,5 +168,14 @@ pub fn step_entry<'a>(step: &Step<'a>) -> (Entry, Option<&'a [u8]>) {
             };
             (entry, None)
         }
+        Step::Gate { gate, version } => {
+            let entry = Entry {
+                kind: 9,
+                a: gate.0,
+                d: version.into(),
+                ..Entry::default()
+            };
+            (entry, None)
+        }
     }
 }
