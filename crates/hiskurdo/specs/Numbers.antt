@@ -7,6 +7,7 @@ use Rattle.records.specs.declared.RecordRef.the-variants as RecordRef
 use Rattle.files.specs.declared.Entry.{Entry}
 use Rattle.files.specs.declared.PlanStep.{PlanStep}
 use Rattle.files.specs.declared.PlanStep.the-variants as PlanStep
+use Rattle.files.specs.declared.StepRequest.the-variants as StepRequest
 use Rattle.files.specs.declared.RecordOption.{RecordOption}
 use Rattle.files.specs.declared.RecordOption.the-variants as RecordOption
 use Rattle.files.specs.declared.StepOption.{StepOption}
@@ -36,8 +37,9 @@ recordBody (RecordRef.RunFailed body) = body
 recordBody (RecordRef.VersionMarker seq gate version) = noBody
 
 abbrev pub stepBody : PlanStep → Body
-stepBody (PlanStep.Effect kind len crc input) = input
-stepBody (PlanStep.Timer spec) = noBody
+stepBody (PlanStep.Request (StepRequest.Effect kind len crc input)) = input
+stepBody (PlanStep.Request (StepRequest.Timer spec)) = noBody
+stepBody (PlanStep.Gate gate version) = noBody
 
 abbrev pub entryNumbers : Entry → Body → Walk → EntryNumbers
 entryNumbers e body next =
