@@ -1,5 +1,5 @@
 /* Reads run.jnl and run.pln of a folder: the journal's records, the verdict in numbers and in words, and the input that is
- * handed over at the stop.
+ * handed over at the stop, or the marker that a gate expects there.
  * Status 0: the verdict accepts; 1: it refuses; 2: no folder was given, or header and archive are not of one version. */
 #include <inttypes.h>
 #include <stdbool.h>
@@ -81,6 +81,16 @@ static void print_input(const File *journal, const File *plan, uint64_t stop) {
            given.start);
 }
 
+/* A step that is due or open. Only the step's kind, a and d are looked at, so its body may be taken to start at 0. */
+static void print_step(const File *journal, const File *plan, uint64_t stop) {
+    HiskurdoEntryNumbers step = hiskurdo_next_step(plan->bytes, plan->len, stop, 0);
+    if (step.kind != HISKURDO_RECORD_VERSION_MARKER) {
+        print_input(journal, plan, stop);
+        return;
+    }
+    printf("gate: write a marker with number %" PRIu64 ", gate %" PRIu64 ", version %" PRIu64 "\n", stop, step.a, step.d);
+}
+
 int main(int argc, char **argv) {
     static File journal, plan;
     if (argc != 2) {
@@ -98,6 +108,6 @@ int main(int argc, char **argv) {
     print_verdict(verdict);
     print_texts(&journal, &plan);
     if (verdict.refused != 0) return 1;
-    if (verdict.ending == HISKURDO_ENDING_DUE || verdict.ending == HISKURDO_ENDING_OPEN) print_input(&journal, &plan, verdict.stop);
+    if (verdict.ending == HISKURDO_ENDING_DUE || verdict.ending == HISKURDO_ENDING_OPEN) print_step(&journal, &plan, verdict.stop);
     return 0;
 }

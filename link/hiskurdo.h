@@ -43,7 +43,7 @@ enum {
     HISKURDO_CLOCK_AT_PERSISTENT_TIME = 2,
 };
 
-/* The kind of a record. */
+/* The kind of a record. A step of a plan has the kind of the record that it expects first: 2 an effect, 5 a timer, 9 a gate. */
 enum {
     HISKURDO_RECORD_RUN_STARTED = 1,
     HISKURDO_RECORD_EFFECT_SCHEDULED = 2,
@@ -97,7 +97,8 @@ enum {
     HISKURDO_REFUSED_NAMES_NOTHING = 60,
 };
 
-/* What differs, with refusal 22. 5 and 7 come from no file; there is no 3. */
+/* What differs, with refusal 22. 5, another gate or version, comes from the verdict alone, where the plan has a gate; 7 comes from
+ * no file; there is no 3. */
 enum {
     HISKURDO_DIVERGENCE_SEQUENCE = 1,
     HISKURDO_DIVERGENCE_KIND = 2,
@@ -139,9 +140,10 @@ HiskurdoReadNumbers hiskurdo_read_journal(const uint8_t *file, size_t file_len);
 HiskurdoReadNumbers hiskurdo_read_plan(const uint8_t *file, size_t file_len);
 
 /* A record or a step by the fields of its entry, and where its body lies.
- * kind 1 to 9, in a plan 2 or 5: clock, a, s, d and m are the entry's, 0 where the kind has no use for one; s is the number
- * that a record bears. The body is the len bytes from start of the same file, and lies within it; both are 0 where the kind
- * has no body. next_entry and next_body are what to pass for the one after it.
+ * kind 1 to 9, in a plan 2, 5 or 9: clock, a, s, d and m are the entry's, 0 where the kind has no use for one; s is the number
+ * that a record bears, and 0 in a plan, where a step's number is its entry. The body is the len bytes from start of the same file, and
+ * lies within it; both are 0 where the kind has no body. next_entry and next_body are what to pass for the one after it.
+ * A step of kind 9 is a gate, which expects a marker: a is the gate, d the version, which may be 0, and it has no body.
  * kind 0: nothing stands there. next_entry and next_body are those that were passed, all else is 0. The replay
  * core, libcore_exports.a, refuses it as a record, with 60, and changes nothing. */
 typedef struct {
@@ -162,17 +164,24 @@ typedef struct {
  * or step in order, each with its whole body. From the header's count on the kind is 0.
  * On any other bytes, and from any other place, the kind is also 0 where it is unknown, where a step is a timer on another clock
  * than 1 or 2, or where the entry, or a body of its length from there, does not lie within the file. A field that no readable
- * file can have is cut to its width, and a timer of 0 in a plan is a step: so read a file before walking it. */
+ * file can have is cut to its width, and a timer of 0 in a plan is a step: so read a file before walking it.
+ * What kind of step stands at one entry of a readable plan, with its a and d, can be asked without a walk, with body 0; start and
+ * next_body say nothing then. */
 HiskurdoEntryNumbers hiskurdo_next_record(const uint8_t *file, size_t file_len, uint64_t entry, uint64_t body);
 HiskurdoEntryNumbers hiskurdo_next_step(const uint8_t *file, size_t file_len, uint64_t entry, uint64_t body);
 
 /* The verdict on a journal and a plan. What does not apply is 0.
- * refused 0: ending, stop (how many steps have an outcome), records, calls and failed (how many of the outcomes are failures). The
- * records are a history of the plan with that ending and stop, and with no other.
+ * refused 0: ending, stop (how many steps are whole: an outcome, a firing or a marker for each), records, calls and failed (how many of
+ * the outcomes are failures). The records are a history of the plan with that ending and stop, and with no other. calls is records, and
+ * one more when open, or when due at an effect or a timer.
+ * Due, step stop comes next, and hiskurdo_next_step(plan, plan_len, stop, 0) tells its kind. Where that is 9, a gate, nothing is to be
+ * started and nothing is handed over: the record that comes next is the marker with the number stop and that step's gate and version.
+ * A run is never open at a gate.
  * refused 1: number, place (the record, or the record count at the end; for 7, 8, 17, 18 and 44 the entry; else 0), divergence
- * (with 22) and calls. number is 1 to 19 or 44 exactly where a file is not readable, the journal read first. Else the records
- * are no history of the plan: the first place of them begin one and the first place + 1 do not, or place is the count of
- * records and the step that is next is a timer for which the plan's capability has no clock. */
+ * (with 22) and calls. number is 1 to 19 or 44 exactly where a file is not readable, the journal read first; calls is 0 then. Else the
+ * records are no history of the plan: the first place of them begin one and the first place + 1 do not, or place is the count of
+ * records and the step that is next is a timer for which the plan's capability has no clock. calls is place + 1 then; it is place where
+ * that record was refused without a call: with 31, and with 22 where the plan has a gate for it (divergence 1, 4 or 5). */
 typedef struct {
     uint64_t refused;
     uint64_t ending;
@@ -202,7 +211,8 @@ uint64_t hiskurdo_version(void);
 /* What is handed over at a boundary.
  * number 0: the len bytes from start, which lie within their file; len may be 0. what 1, completed, or 2, failed: the whole
  * body of that boundary's outcome record, in the journal. what 3, input: the whole body of that step's entry, in the plan.
- * Any other number is a refusal: the verdict's own, or 32 where this boundary has no bytes. what, start and len are 0.
+ * Any other number is a refusal: the verdict's own, or 32 where this boundary has no bytes, as each timer and each gate. what, start
+ * and len are 0.
  * An outcome is handed over at each effect before the stop; the input at the stop, where that is an effect and due or open. */
 typedef struct {
     uint64_t number;
