@@ -139,7 +139,7 @@ struct AllFiles {
     full: Files,
     /// 1,024 records, all timers.
     timers: Files,
-    /// A journal of 1,024 version markers: of a kind that the proved code has no test for.
+    /// A journal of 1,024 version markers.
     markers: Vec<u8>,
     /// A run's start and 1,023 markers, and as many gates; an eighth of it.
     gates: Files,

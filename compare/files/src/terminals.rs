@@ -72,7 +72,8 @@ impl Terminals {
 
     pub fn told(&self) -> String {
         format!(
-            "run completed at a step {}, failed at a step {}, completed at a gate {}, failed at a gate {}, completed after the last step {}, failed after it {}",
+            "run completed at a step {}, failed at a step {}, completed at a gate {}, failed at a gate {}, \
+             completed after the last step {}, failed after it {}",
             self.count(0..3, 0),
             self.count(0..3, 1),
             self.count(2..3, 0),

@@ -21,7 +21,7 @@ use Rattle.histories.specs.Histories.{Starts, Boundaries}
 use Rattle.histories.specs.Histories as H
 use Rattle.histories.specs.Promise.{TooSoon}
 use Rattle.histories.specs.Promise as P
-use Rattle.histories.specs.StepAt.{stepAfter}
+use Rattle.histories.specs.StepAfter.{stepAfter}
 use Rattle.histories.proofs.Soon.{too-soon-step, too-soon-within}
 use Rattle.lines.specs.Telling.{entryBefore, stepNext, tellingOf}
 

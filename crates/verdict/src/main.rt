@@ -36,7 +36,8 @@ fn usage(fd: i32) {
         One line on the run in the folder's files run.jnl and run.pln:\n\
         ok ENDING STOP RECORDS CALLS FAILED: a history of the plan, with STOP whole steps, of which FAILED failed.\n\
         ENDING says what to do:\n\
-        unstarted: start it as a new run; due: start step STOP; open: deliver step STOP, or arm its timer, again;\n\
+        unstarted: start it as a new run; due: start step STOP, or write its marker where it is a gate;\n\
+        open: deliver step STOP, or arm its timer, again;\n\
         done: nothing is left to deliver; finished: nothing, the run is closed and cannot be resumed.\n\
         no NUMBER PLACE DIVERGENCE CALLS: not to be resumed. README.md, \"How to read a refusal\", lists the numbers.\n\
         Steps and records are counted from 0.\n\
