@@ -1,25 +1,32 @@
--- The step that the words of 45 show is the one at which the run was completed (`shown-step`).
-use Prim.Native.Nat.{ℕ, _+_, _-_}
+-- The step that the words of 45 show is the one at which the run was completed (`shown-step`); the gate that they show where one is
+-- due is the plan's (`shown-gate`).
+use Prim.Native.Nat.{ℕ, suc, _+_, _-_}
 use mathlib.Core.Path.{_≡_, refl, sym, ap, subst, _∙_}
 use mathlib.Core.List.{List, [], _∷_, _++_, append-assoc}
+use mathlib.Core.Bool.{cond}
 use native.Mathlib.Omega.{arith}
+use lib.Dec.{eqb}
 use borrow.Author.Tests.{ne-eqb}
-use lib.ListN.{length, take, drop, length-append, take-append-drop}
+use lib.ListN.{length, take, drop, length-append, length-drop, take-append-drop}
 use lib.Seq.{length-take-le}
+use Rattle.ids.specs.declared.GateId.{GateId}
 use Rattle.clocks.specs.declared.ClockCapability.{ClockCapability}
 use Rattle.records.specs.declared.RecordRef.{RecordRef}
 use Rattle.records.specs.declared.RecordRef.the-variants as RecordRef
 use Rattle.files.specs.declared.Format.the-variants as Format
+use Rattle.files.specs.declared.Entry.{Entry}
 use Rattle.files.specs.declared.PlanStep.{PlanStep}
-use Rattle.files.specs.Contents.{recordsOf}
-use Rattle.files.specs.Encoding.{recordEntry}
+use Rattle.files.specs.declared.PlanStep.the-variants as PlanStep
+use Rattle.files.specs.Contents.{recordsOf, stepsOf}
+use Rattle.files.specs.Encoding.{recordEntry, stepEntry}
 use Rattle.files.specs.Kinds.{entryIn}
 use Rattle.files.specs.Standing.{Whole}
-use Rattle.files.proofs.Numbered.{record-at}
+use Rattle.files.proofs.Numbered.{record-at, step-at}
+use Rattle.endings.specs.declared.Ending.the-variants as Ending
 use Rattle.histories.specs.declared.Answer.the-variants as Answer
 use Rattle.histories.specs.Histories.{Starts, Boundaries}
 use Rattle.histories.specs.Histories as H
-use Rattle.histories.specs.Promise.{TooSoon}
+use Rattle.histories.specs.Promise.{AtGate, TooSoon}
 use Rattle.histories.specs.Promise as P
 use Rattle.histories.specs.StepAfter.{stepAfter}
 use Rattle.histories.proofs.Soon.{too-soon-step, too-soon-within}
@@ -75,3 +82,16 @@ shown-step journal plan whole {capability} {steps} {p} {k} soon divergence calls
     let place : p ≡ length before + 1 = omega (arith, long, length-append before (x ∷ [])) in
     let here = entry-before journal p (length before) place ∙ record-at journal whole before x (drop p records) split in
     ap stepNext here ∙ by-entry x k (last .1 .1 .1) (λ z. start-alone (subst (TooSoon capability steps records p) z soon) before x front-is)
+
+pub shown-gate : (journal plan : List ℕ) → Whole Format.Plan plan → {capability : ClockCapability} (k : ℕ) {version : ℕ} {g : GateId}
+    {records : List RecordRef} → AtGate capability (stepsOf plan) k g version records → (count calls failed : ℕ) →
+    tellingOf journal plan (Answer.Ok Ending.Due k count calls failed) .number ≡ g .0
+shown-gate journal plan whole k {version} {g} (P.at-gate {later = later} starts b is) count calls failed =
+    let steps = stepsOf plan in
+    let split : steps ≡ take k steps ++ (PlanStep.Gate g version ∷ later) =
+    sym (take-append-drop k steps) ∙ ap (λ (l : List PlanStep). take k steps ++ l) is in
+    let left : length steps - k ≡ suc (length later) = sym (length-drop k steps) ∙ ap (λ (l : List PlanStep). length l) is in
+    let long = length-take-le k steps (omega (arith, left)) in
+    let there = step-at plan whole (take k steps) (PlanStep.Gate g version) later split in
+    let here : entryIn plan k ≡ stepEntry (PlanStep.Gate g version) = subst (λ (n : ℕ). entryIn plan n ≡ stepEntry (PlanStep.Gate g version)) long there in
+    ap (λ (e : Entry). cond (eqb (e .kind) 9) (e .a) k) here
