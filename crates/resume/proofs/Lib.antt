@@ -1,4 +1,5 @@
 pub mod Places
+pub mod Between
 pub mod Rules
 pub mod Loops
 pub mod Keeps
