@@ -19,9 +19,9 @@
 #include <stdint.h>
 
 /* The version of this header; the programs' --version says the same. */
-#define HISKURDO_VERSION "0.3.0"
+#define HISKURDO_VERSION "0.2.0"
 #define HISKURDO_VERSION_MAJOR 0
-#define HISKURDO_VERSION_MINOR 3
+#define HISKURDO_VERSION_MINOR 2
 #define HISKURDO_VERSION_PATCH 0
 #define HISKURDO_VERSION_NUMBER (HISKURDO_VERSION_MAJOR * 1000000 + HISKURDO_VERSION_MINOR * 1000 + HISKURDO_VERSION_PATCH)
 

@@ -2,6 +2,8 @@
 //
 // Owns: the number and the values of each case. Must not own: a rule, or a number that 01 gives (errors, machine).
 // Defends: one case, one number, for every program that shows an answer.
+#![tactic(auto)]
+
 ghost use Rattle.std.specs.Prelude.{◌≡◌};
 ghost use Rattle.answer_numbers.specs.CursorTold.{
   position_told,

@@ -5,6 +5,8 @@
 //
 // Why two specs: a boot clock returns to 0 after a reset and cannot say how long the power was off; a persistent clock can. So after
 // a reset a boot timer counts from the smaller reading, and a persistent one from the reading that was recorded.
+#![tactic(auto)]
+
 ghost use Rattle.std.specs.Prelude.{◌≡◌};
 ghost use Rattle.clocks.specs.Rearming.{Rearmed};
 ghost use Rattle.clocks.specs.Specs.{spec_clock, spec_deadline, rearmed_at, recorded_spec, capability_of};
@@ -15,7 +17,7 @@ use errors::{KernelError, Told};
 use ids::ClockKind;
 
 // What a timer waits for.
-#[derive(Drop)]
+#[derive(Clone, Copy)]
 pub enum TimerSpec {
     // So many ticks of this boot's clock, which returns to 0 after a reset.
     AfterBoot { ticks: u64 },
@@ -24,7 +26,7 @@ pub enum TimerSpec {
 }
 
 // Option<TimerSpec> in the Rust.
-#[derive(Drop)]
+#[derive(Clone, Copy)]
 pub enum TimerSpecOption {
     Some(TimerSpec),
     None,
@@ -81,21 +83,21 @@ impl TimerSpec {
 }
 
 // Which clocks a board has.
-#[derive(Drop)]
+#[derive(Clone, Copy)]
 pub enum ClockCapability {
     BootOnly,
     Persistent,
 }
 
 // A capability, or none where a number names none.
-#[derive(Drop)]
+#[derive(Clone, Copy)]
 pub enum ClockCapabilityOption {
     Some(ClockCapability),
     None,
 }
 
 // Result<(), KernelError> in the Rust.
-#[derive(Drop)]
+#[derive(Clone, Copy)]
 pub enum AdmitsResult {
     Ok,
     Err(KernelError),
@@ -130,28 +132,28 @@ impl ClockCapability {
 }
 
 // An armed timer: its spec, and the reading of its clock when it was armed.
-#[derive(Drop)]
+#[derive(Clone, Copy)]
 pub struct Timer {
     pub spec: TimerSpec,
     pub armed_at: u64,
 }
 
 // Result<Timer, KernelError> in the Rust.
-#[derive(Drop)]
+#[derive(Clone, Copy)]
 pub enum TimerResult {
     Ok(Timer),
     Err(KernelError),
 }
 
 // What a reading says about an armed timer.
-#[derive(Drop)]
+#[derive(Clone, Copy)]
 pub enum Deadline {
     Elapsed,
     Remaining { ticks: u64 },
 }
 
 // Result<Deadline, KernelError> in the Rust.
-#[derive(Drop)]
+#[derive(Clone, Copy)]
 pub enum DeadlineResult {
     Ok(Deadline),
     Err(KernelError),

@@ -14,62 +14,62 @@ use machine::{Divergence, DivergenceOption, Next, Phase, ReplayMachine, TimerReq
 use records::{Body, RecordRef, RecordRefOption};
 
 // A number that is offered or not, by its flag.
-#[derive(Drop)]
+#[derive(Clone, Copy)]
 pub enum OfferOption {
     Some(SeqOption),
     None,
 }
 
-#[derive(Drop)]
+#[derive(Clone, Copy)]
 pub enum IdsOption {
     Some(EffectIdAllocator),
     None,
 }
 
-#[derive(Drop)]
+#[derive(Clone, Copy)]
 pub enum ErrorOption {
     Some(KernelError),
     None,
 }
 
-#[derive(Drop)]
+#[derive(Clone, Copy)]
 pub enum StateOption {
     Some(State),
     None,
 }
 
-#[derive(Drop)]
+#[derive(Clone, Copy)]
 pub enum CursorOption {
     Some(ReplayCursor),
     None,
 }
 
-#[derive(Drop)]
+#[derive(Clone, Copy)]
 pub enum NextOption {
     Some(Next),
     None,
 }
 
-#[derive(Drop)]
+#[derive(Clone, Copy)]
 pub enum PhaseOption {
     Some(Phase),
     None,
 }
 
-#[derive(Drop)]
+#[derive(Clone, Copy)]
 pub enum MachineOption {
     Some(ReplayMachine),
     None,
 }
 
 // A machine with the record or the end of history that it is asked about.
-#[derive(Drop)]
+#[derive(Clone, Copy)]
 pub enum TurnOption {
     Some { machine: ReplayMachine, next: Next },
     None,
 }
 
-#[derive(Drop)]
+#[derive(Clone, Copy)]
 pub enum TimerRequestOption {
     Some(TimerRequest),
     None,

@@ -3,6 +3,8 @@
 // Owns: the numbers of values that cross the boundary. Must not own: a rule; each export calls the crate that has it.
 // Defends: a number that names nothing is refused with 60, and what was given is given back; it is never taken for another.
 // compare/src/ffi.rs declares these functions for Rust.
+#![tactic(auto)]
+
 ghost use Rattle.std.specs.Prelude.{◌≡◌, cond};
 ghost use Rattle.errors.specs.Told.{told1};
 ghost use Rattle.ids.specs.Ids.{run_successor, seq_successor};
@@ -36,7 +38,7 @@ const NAMES_NOTHING: u64 = 60;
 
 // An allocator: `offers` is 1 where `next` is offered, else 0.
 #[repr(C)]
-#[derive(Drop)]
+#[derive(Clone, Copy)]
 pub struct IdsNumbers {
     pub run: u64,
     pub next: u32,
@@ -44,7 +46,7 @@ pub struct IdsNumbers {
 }
 
 #[repr(C)]
-#[derive(Drop)]
+#[derive(Clone, Copy)]
 pub struct AllocatedNumbers {
     pub ids: IdsNumbers,
     pub answer: Told,
@@ -52,7 +54,7 @@ pub struct AllocatedNumbers {
 
 // A timer's spec.
 #[repr(C)]
-#[derive(Drop)]
+#[derive(Clone, Copy)]
 pub struct SpecNumbers {
     pub deadline: u64,
     pub clock: u8,
@@ -60,7 +62,7 @@ pub struct SpecNumbers {
 
 // A record by the fields of a journal entry, and where its body starts.
 #[repr(C)]
-#[derive(Drop)]
+#[derive(Clone, Copy)]
 pub struct RecordNumbers {
     pub kind: u8,
     pub clock: u8,
@@ -73,7 +75,7 @@ pub struct RecordNumbers {
 
 // A cursor: `position` is its place among the positions; a field that the position does not hold is 0. Any `failed` is a count.
 #[repr(C)]
-#[derive(Drop)]
+#[derive(Clone, Copy)]
 pub struct CursorNumbers {
     pub ids: IdsNumbers,
     pub failed: u64,
@@ -89,7 +91,7 @@ pub struct CursorNumbers {
 }
 
 #[repr(C)]
-#[derive(Drop)]
+#[derive(Clone, Copy)]
 pub struct AdvancedNumbers {
     pub cursor: CursorNumbers,
     pub answer: Told,

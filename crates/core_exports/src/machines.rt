@@ -28,7 +28,7 @@ use records::RecordRefOption;
 
 // An effect as it is asked for.
 #[repr(C)]
-#[derive(Drop)]
+#[derive(Clone, Copy)]
 pub struct RequestNumbers {
     pub input_crc: u32,
     pub kind: u16,
@@ -37,7 +37,7 @@ pub struct RequestNumbers {
 
 // An effect as it is recorded.
 #[repr(C)]
-#[derive(Drop)]
+#[derive(Clone, Copy)]
 pub struct PendingNumbers {
     pub run: u64,
     pub seq: u32,
@@ -48,7 +48,7 @@ pub struct PendingNumbers {
 
 // A machine: `phase` is its place among the phases; `divergence` is 0 unless it has diverged, and then 1, 2 or 4 to 9.
 #[repr(C)]
-#[derive(Drop)]
+#[derive(Clone, Copy)]
 pub struct MachineNumbers {
     pub cursor: CursorNumbers,
     pub phase: u8,
@@ -56,7 +56,7 @@ pub struct MachineNumbers {
 }
 
 #[repr(C)]
-#[derive(Drop)]
+#[derive(Clone, Copy)]
 pub struct MachineAnswered {
     pub machine: MachineNumbers,
     pub answer: Told,

@@ -2,12 +2,14 @@
 //
 // Owns: KernelError and its numbers; Told. Must not own: a reason to refuse.
 // Defends: one refusal, one number, the same in every crate above.
+#![tactic(auto)]
+
 ghost use Rattle.std.specs.Prelude.{◌≡◌};
 ghost use Rattle.errors.specs.Errors.{error_number};
 ghost use Rattle.errors.specs.Told.{told5, error_told};
 
 // HistoryNearCapacity and Decode are never made here and are left out.
-#[derive(Drop)]
+#[derive(Clone, Copy)]
 pub enum KernelError {
     IdExhausted,
     NondeterministicWorkflow,
@@ -42,7 +44,7 @@ impl KernelError {
 
 // An answer in numbers: its own number, then its values in order, 0 where it has fewer than five.
 #[repr(C)]
-#[derive(Drop)]
+#[derive(Clone, Copy)]
 pub struct Told {
     pub number: u64,
     pub a: u64,

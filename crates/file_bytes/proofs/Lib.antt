@@ -1,4 +1,3 @@
 pub mod Putting
 pub mod Same
 pub mod Asking
-pub mod Shown

@@ -3,6 +3,8 @@
 // Owns: paths, opening, reading, closing; why the system refused, on standard error. Must not own: what the bytes mean.
 // Defends: a file that cannot be read, or whose reading fails, has 0 bytes (01, "a file that cannot be read counts as 0 bytes"),
 // and the lent room is then as it was. No contract can say which bytes a file has.
+#![tactic(auto)]
+
 pub mod names;
 
 ghost use Rattle.std.specs.Prelude.{◌≤◌, min, ◌≡◌, length};

@@ -1,12 +1,12 @@
 // Names as they are given and as they are shown.
 //
-// Defends: no name moves the cursor of a terminal, ends a field or a row, or starts a formula; an option is not taken for a folder.
+// Defends: no byte of a name moves the cursor of a terminal, ends a field or a row; an option is not taken for a folder.
 ghost use Rattle.std.specs.Prelude.{◌≡◌, eqb, get_or};
 ghost use Rattle.io.specs.Counts.{IsPrefixLen};
-ghost use Rattle.file_bytes.specs.Names.{clean, cleaned, starts_marked, same_bytes, asked_for};
+ghost use Rattle.file_bytes.specs.Names.{clean, same_bytes, asked_for};
 
 // What an argument asks for.
-#[derive(Drop)]
+#[derive(Clone, Copy)]
 pub enum Asked {
     Folder,
     Help,
@@ -14,53 +14,19 @@ pub enum Asked {
     Unknown,
 }
 
-// A byte between two others, as it is shown: `?` for a control byte, and for either byte of a C1 control in UTF-8.
-fn clean(before: u8, byte: u8, after: u8) -> u8
-    ensures { result ≡ clean before byte after }
+// A control byte is shown as `?`.
+pub fn clean(byte: u8) -> u8
+    ensures { result ≡ clean byte }
 {
-    let control = (byte < 32) | (byte == 127);
-    let first = (byte == 194) & ((128 <= after) & (after < 160));
-    let second = (before == 194) & ((128 <= byte) & (byte < 160));
-    if control | (first | second) {
+    if (byte < 32) | (byte == 127) {
         b'?'
     } else {
         byte
     }
 }
 
-// Byte i of a name as it is shown; 0 beyond its end.
-pub fn shown_byte(name: &[u8], i: usize) -> u8
-    ensures { result ≡ get_or (cleaned name.now) i 0 }
-{
-    if i >= name.len() {
-        return 0;
-    }
-    let after = byte_at(name, i + 1);
-    if i == 0 {
-        return clean(0, name[i], after);
-    }
-    clean(name[i - 1], name[i], after)
-}
-
-fn byte_at(name: &[u8], i: usize) -> u8
-    ensures { result ≡ get_or name.now i 0 }
-{
-    if i >= name.len() {
-        return 0;
-    }
-    name[i]
-}
-
-// Whether a spreadsheet would take a name for a formula or a quotation: then `./` is shown before it.
-pub fn starts_marked(name: &[u8]) -> bool
-    ensures { result ≡ starts_marked name.now }
-{
-    let first = byte_at(name, 0);
-    (first == b'=') | ((first == b'+') | ((first == b'-') | ((first == b'@') | (first == b'"'))))
-}
-
-pub fn same(a: &[u8], b: &[u8]) -> bool
-    ensures { result ≡ sameBytes a.now b.now }
+fn same(a: &[u8], b: &[u8]) -> bool
+    ensures { result ≡ same_bytes a.now b.now }
 {
     if a.len() != b.len() {
         return false;
@@ -77,7 +43,7 @@ pub fn same(a: &[u8], b: &[u8]) -> bool
 
 // A folder, or an option: whatever begins with `-`. A folder with such a name is given as `./-name`.
 pub fn asked_for(argument: &[u8]) -> Asked
-    ensures { result ≡ askedFor argument.now }
+    ensures { result ≡ asked_for argument.now }
 {
     if same(argument, b"-h") | same(argument, b"--help") {
         return Asked::Help;
@@ -94,7 +60,10 @@ pub fn asked_for(argument: &[u8]) -> Asked
 fn dashed(argument: &[u8]) -> bool
     ensures { result ≡ eqb (get_or argument.now 0 0) 45 }
 {
-    byte_at(argument, 0) == b'-'
+    if argument.len() == 0 {
+        return false;
+    }
+    argument[0] == b'-'
 }
 
 // Says on standard error why the system refused a file, by its path and the system's own reason.
@@ -117,7 +86,7 @@ fn show(name: &[u8], room: &mut [u8]) -> usize
         if i >= room.len() {
             return i;
         }
-        room[i] = shown_byte(name, i);
+        room[i] = clean(name[i]);
         i += 1;
     }
     i

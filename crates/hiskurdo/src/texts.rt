@@ -58,8 +58,8 @@ pub extern "C" fn hiskurdo_verdict_words(journal: &[u8], plan: &[u8], text: &mut
 // The version in one number, as the programs print it in text.
 #[unsafe(no_mangle)]
 pub extern "C" fn hiskurdo_version() -> u64
-    ensures value { result ≡ version_number 0 3 0 }
-    ensures version_text_value { version_text 0 3 0 ≡ version_line }
+    ensures value { result ≡ version_number 0 2 0 }
+    ensures version_text_value { version_text 0 2 0 ≡ version_line }
 {
-    3000
+    2000
 }

@@ -12,7 +12,7 @@ use resume::handing;
 // A verdict. refused 0: ending (0 unstarted, 1 due, 2 done, 3 open, 4 finished), stop, records, calls, failed;
 // refused 1: number, place, divergence, calls. What does not apply is 0.
 #[repr(C)]
-#[derive(Drop)]
+#[derive(Clone, Copy)]
 pub struct VerdictNumbers {
     pub refused: u64,
     pub ending: u64,
@@ -28,7 +28,7 @@ pub struct VerdictNumbers {
 // A handover. number 0: what (1 completed, 2 failed: of the journal; 3 input: of the plan), where it starts there and how
 // long it is; else the refusal's number, with the empty part of the journal.
 #[repr(C)]
-#[derive(Drop)]
+#[derive(Clone, Copy)]
 pub struct HandoverNumbers {
     pub number: u64,
     pub what: u64,

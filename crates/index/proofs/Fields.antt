@@ -1,7 +1,6 @@
 -- Laws of a row that is written field by field: the bytes copied so far, the byte that ends a field, fields one after another.
-use Prim.Native.Nat.{ℕ, ◌+◌, ◌≤◌, ◌<◌}
+use Prim.Native.Nat.{ℕ, zero, suc, ◌+◌, ◌≤◌, ◌<◌}
 use mathlib.Core.Path.{◌≡◌, refl, ap, ◌∙◌, subst}
-use mathlib.Core.Bool.{Bool, true, false, cond}
 use mathlib.Core.List.{List, [], ◌∷◌, ◌++◌, append_assoc}
 use native.Mathlib.Numerals.{add-one}
 use native.Mathlib.Omega.{arith}
@@ -13,10 +12,9 @@ use Rattle.lines.specs.declared.words.Telling.{Telling}
 use Rattle.lines.specs.Line.{Holds}
 use Rattle.lines.specs.Telling.{telling_of}
 use Rattle.lines.proofs.Laws.{held_len, held_front}
-use Rattle.file_bytes.specs.Names.{cleaned, starts_marked, shown_name}
-use Rattle.file_bytes.proofs.Shown.{cleaned_length}
-use Rattle.index.specs.Row.{ended, tabbed, columns}
-use Rattle.index.specs.Private.{Fielded, Placed, Dotted, three, run_columns, step_columns, answer_columns}
+use Rattle.file_bytes.specs.Names.{clean}
+use Rattle.index.specs.Row.{cleaned, ended, answer_fields, fields}
+use Rattle.index.specs.Private.{Fielded}
 
 -- the first n bytes of a text stand at a place, and all else is as it was
 pub record Copied (before : List ℕ) (at : ℕ) (text after : List ℕ) (n : ℕ) : Type 0 where
@@ -49,6 +47,15 @@ module _ (before : List ℕ) (at : ℕ) (text after : List ℕ) (n place byte : 
         same = length-set after place byte ∙ h.same;
       }
 
+pub cleaned_length : (name : List ℕ) → length (cleaned name) ≡ length name
+cleaned_length [] = refl
+cleaned_length (byte ∷ bytes) = ap suc (cleaned_length bytes)
+
+pub cleaned_at : (name : List ℕ) (i : ℕ) → i < length name → get_or (cleaned name) i 0 ≡ clean (get_or name i 0)
+cleaned_at [] i h = absurd (omega arith)
+cleaned_at (byte ∷ bytes) zero h = refl
+cleaned_at (byte ∷ bytes) (suc i) h = cleaned_at bytes i (omega arith)
+
 -- a field of a line's first bytes is one of what the line holds, up to all of it
 module _ (line : Line) (text before : List ℕ) (at last : ℕ) (after : List ℕ) (next : ℕ) where
   pub held_part : (n : ℕ) → Holds line text → n ≤ length text → Fielded before at (take n line.bytes) last after next →
@@ -61,35 +68,14 @@ module _ (line : Line) (text before : List ℕ) (at last : ℕ) (after : List �
       subst (λ (l : List ℕ). Fielded before at l last after next) (take-length text)
       (held_part (length text) h (omega arith) (rw (held_len line text h) at f))
 
--- three fields of lines, one after another
-module _ (a b c d x y z : List ℕ) (i j k m last : ℕ) where
-  pub three_placed : Fielded a i x 9 b j → Fielded b j y 9 c k → Fielded c k z last d m → j ≤ i + 129 → k ≤ j + 129 → m ≤ k + 129 →
-      Placed a i (three x y z last) 387 d m
-  three_placed f g h p q r = record {
-    front = rw (h.front, g.front, f.front, append_assoc, append_assoc, append_assoc);
-    within = omega arith;
-    same = h.same ∙ g.same ∙ f.same;
-  }
+-- three fields, one after another
+module _ (a b c d x y z : List ℕ) (i j k m last₁ last₂ last₃ : ℕ) where
+  pub three : Fielded a i x last₁ b j → Fielded b j y last₂ c k → Fielded c k z last₃ d m →
+      take m d ≡ take i a ++ (ended x last₁ ++ (ended y last₂ ++ ended z last₃))
+  three f g h = rw (h.front, g.front, f.front, append_assoc, append_assoc, append_assoc)
 
--- `./` or nothing, then the name byte by byte
-module _ (name room dotted last : List ℕ) (at next : ℕ) where
-  pub name_placed : Dotted room name dotted at → Fielded dotted at (cleaned name) 9 last next →
-      Placed room 0 (ended (shown_name name) 9) (length name + 3) last next
-  name_placed d f = record {
-    front = f.front ∙ ap (λ (l : List ℕ). l ++ ended (cleaned name) 9) d.front ∙ by (starts_marked name);
-    within = omega (arith, f.place, d.within, cleaned_length 0 name);
-    same = f.same ∙ d.same;
-  }
-    where
-      by : (b : Bool) → (cond b (46 ∷ 47 ∷ []) [] ++ ended (cleaned name) 9) ≡ ended (cond b (46 ∷ 47 ∷ cleaned name) (cleaned name)) 9
-      by true = refl
-      by false = refl
-
--- the name, and after it three times three columns
-module _ (name journal plan : List ℕ) (answer : Answer) (telling : Telling) (r₀ r₁ r₂ r₃ r₄ : List ℕ) (a b c d : ℕ) where
-  pub row_of_lem : Placed r₀ 0 (ended (shown_name name) 9) (length name + 3) r₁ a →
-      Placed r₁ a (run_columns journal answer) 387 r₂ b →
-      Placed r₂ b (step_columns plan answer) 387 r₃ c →
-      Placed r₃ c (answer_columns plan answer telling) 387 r₄ d →
-      telling ≡ telling_of journal plan answer → take d r₄ ≡ tabbed (columns name journal plan answer)
-  row_of_lem n f g h t = rw (h.front, g.front, f.front, n.front, t) (simp append_assoc)
+-- the name's field, and after it the answer's
+module _ (name journal plan room named last : List ℕ) (at end : ℕ) (telling : Telling) (answer : Answer) where
+  pub row_of_lem : Fielded room 0 (cleaned name) 9 named at → take end last ≡ take at named ++ answer_fields answer telling →
+      telling ≡ telling_of journal plan answer → take end last ≡ fields name journal plan answer
+  row_of_lem f g t = rw (g, f.front, t)

@@ -1,45 +1,32 @@
--- The row of a run folder: its name and what is told of the run, in ten columns; and the row of the columns' names.
-use Rattle.std.specs.Prelude.{ℕ, ◌-◌, List, [], ◌∷◌, ◌++◌, length, take}
-use Rattle.endings.specs.Endings.{ascii}
+-- The row of a run folder: its name, whether it may be resumed and at which step, the verdict's line, and plain words.
+use Rattle.std.specs.Prelude.{ℕ, ◌+◌, ◌-◌, List, [], ◌∷◌, ◌++◌, length, take}
 use Rattle.histories.specs.declared.Answer.{Answer}
-use Rattle.lines.specs.Columns.{run_column, state_column, step_column, steps_column, what_column, failed_column, board_column}
+use Rattle.lines.specs.declared.words.Telling.{Telling}
 use Rattle.lines.specs.Line.{line_of}
-use Rattle.lines.specs.Words.{words_of}
+use Rattle.lines.specs.Words.{words_of, resume_of}
 use Rattle.lines.specs.Telling.{telling_of}
-use Rattle.file_bytes.specs.Names.{shown_name}
+use Rattle.file_bytes.specs.Names.{clean}
 use Rattle.resume.specs.Verdict.{verdict_rule}
+
+-- a folder's name as it is shown
+abbrev pub cleaned : List ℕ → List ℕ
+cleaned [] = []
+cleaned (byte ∷ bytes) = clean byte ∷ cleaned bytes
 
 -- a field and the byte that ends it
 abbrev pub ended : List ℕ → ℕ → List ℕ
 ended text last = text ++ (last ∷ [])
 
--- a row: a tab between two fields, a line feed last
-abbrev pub tabbed : List (List ℕ) → List ℕ
-tabbed [] = []
-tabbed (field ∷ []) = ended field 10
-tabbed (field ∷ (next ∷ fields)) = ended field 9 ++ tabbed (next ∷ fields)
-
 -- the line without its line feed
 abbrev pub printed : Answer → List ℕ
 printed answer = take (length (line_of answer) - 1) (line_of answer)
 
--- the columns, of a pair of files with this answer
-abbrev pub columns : List ℕ → List ℕ → List ℕ → Answer → List (List ℕ)
-columns name journal plan answer =
-    shown_name name ∷
-    run_column journal ∷ state_column answer ∷ step_column answer ∷
-    steps_column plan ∷ what_column plan answer ∷ failed_column answer ∷
-    board_column plan ∷ printed answer ∷ words_of answer (telling_of journal plan answer) ∷ []
+-- what follows the name: a tab between two fields, a line feed last
+abbrev pub answer_fields : Answer → Telling → List ℕ
+answer_fields answer telling = ended (resume_of answer) 9 ++ (ended (printed answer) 9 ++ ended (words_of answer telling) 10)
+
+abbrev pub fields : List ℕ → List ℕ → List ℕ → Answer → List ℕ
+fields name journal plan answer = ended (cleaned name) 9 ++ answer_fields answer (telling_of journal plan answer)
 
 unfoldable pub row_of : List ℕ → List ℕ → List ℕ → List ℕ
-row_of name journal plan = tabbed (columns name journal plan (verdict_rule journal plan))
-
--- their names
-abbrev pub header_row : List ℕ
-header_row =
-    tabbed (
-    ascii "folder" ∷
-    ascii "run" ∷ ascii "state" ∷ ascii "step" ∷
-    ascii "steps" ∷ ascii "what" ∷ ascii "failed" ∷
-    ascii "board" ∷ ascii "line" ∷ ascii "words" ∷ []
-    )
+row_of name journal plan = fields name journal plan (verdict_rule journal plan)

@@ -4,4 +4,3 @@ mod Right
 mod Table
 pub mod Laws
 pub mod ShownStep
-pub mod What

@@ -122,10 +122,6 @@ ending_room (r ∷ rows) detail h =
     by_row true false x y = y
     by_row false d x y = y
 
--- the text of a gate with its number leaves room for the version
-pub gate_fits : (n : ℕ) → n < 18446744073709551616 → length (filled n (ascii "gate #")) ≤ 25
-gate_fits n h = omega (arith, filled_room n (ascii "gate #") h)
-
 pub ending_fits : (n detail : ℕ) → n < 18446744073709551616 → length (filled n (ascii (words_in table 0 detail))) ≤ 92
 ending_fits n detail h =
     let words = ascii (words_in table 0 detail) in

@@ -6,7 +6,7 @@ use Rattle.histories.specs.declared.Answer.{Answer}
 use Rattle.histories.specs.declared.Answer.TheVariants as Answer
 use Rattle.endings.specs.declared.Ending.{Ending}
 use Rattle.endings.specs.declared.Ending.TheVariants as Ending
-use Rattle.endings.specs.Endings.{ascii, ending_number}
+use Rattle.endings.specs.Endings.{ascii, ending_number, still_to_run}
 use Rattle.lines.specs.Line.{decimal}
 use Rattle.lines.specs.declared.words.Telling.{Telling}
 
@@ -117,6 +117,11 @@ words_of (Answer.Ok ending stop records calls failed) telling = ending_words end
 words_of (Answer.No number place divergence calls) telling =
     filled telling.number (ascii (words_in table number (detail_of number place divergence telling.kind)))
 
+-- whether the run may be resumed, and at which step: it may where a step is still to run
+unfoldable pub resume_of : Answer → List ℕ
+resume_of (Answer.Ok ending stop records calls failed) = filled stop (ascii (cond (still_to_run ending) "yes, step #" "no"))
+resume_of (Answer.No number place divergence calls) = ascii "no"
+
 -- the version, as both programs print it
 abbrev pub version_line : List ℕ
-version_line = ascii "hiskurdo 0.3.0\n"
+version_line = ascii "hiskurdo 0.2.0\n"

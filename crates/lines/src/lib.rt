@@ -2,7 +2,8 @@
 //
 // Owns: the words, the digits, the spaces and the line feed. Must not own: what the answer is, where the line goes.
 // Defends: any answer at all has exactly its line, and nothing stands after it.
-pub mod columns;
+#![tactic(auto)]
+
 pub mod telling;
 pub mod words;
 
@@ -16,7 +17,7 @@ use endings::Ending;
 use histories::Answer;
 
 // Bytes, of which the first `len` are the line.
-#[derive(Drop)]
+#[derive(Clone, Copy)]
 pub struct Line {
     pub bytes: [u8; 128],
     pub len: usize,
@@ -76,7 +77,7 @@ fn numbers(line: Line, a: u64, b: u64, c: u64) -> Line
     field(field(field(line, a, b' '), b, b' '), c, b'\n')
 }
 
-pub(crate) fn word(line: Line, ending: Ending) -> Line
+fn word(line: Line, ending: Ending) -> Line
     requires { line.len + 9 ≤ 128 }
     ensures value { result ≡ written line (ending_word ending) }
     ensures len_bound { result.len ≤ line.len + 9 }
@@ -139,5 +140,5 @@ pub fn line_of(answer: Answer) -> Line
 pub fn version() -> Line
     ensures { Holds result version_line }
 {
-    write(empty(), b"hiskurdo 0.3.0\n")
+    write(empty(), b"hiskurdo 0.2.0\n")
 }

@@ -1,9 +1,9 @@
 // What an answer means in plain words: what to do, or which line of the field engineer's checklist failed, and where.
-ghost use Rattle.std.specs.Prelude.{◌≡◌, ◌+◌, ◌≤◌, ◌<◌, length, drop};
-ghost use Rattle.endings.specs.Endings.{ascii};
+ghost use Rattle.std.specs.Prelude.{◌≡◌, cond, ◌+◌, ◌≤◌, ◌<◌, length, drop};
+ghost use Rattle.endings.specs.Endings.{ascii, still_to_run};
 ghost use Rattle.lines.specs.Line.{Holds};
 ghost use Rattle.lines.specs.Writing.{written};
-ghost use Rattle.lines.specs.Words.{table, words_in, filled, shown, ending_detail, ending_words, detail_of, words_of};
+ghost use Rattle.lines.specs.Words.{table, words_in, filled, shown, ending_detail, ending_words, detail_of, words_of, resume_of};
 ghost use Rattle.lines.specs.Rows.{coded, after_line, of_line, keyed, words_at};
 
 use crate::Line;
@@ -11,7 +11,7 @@ use endings::Ending;
 use histories::Answer;
 
 // What the words of an answer depend on beside it: the kind of one entry, and the number that they show.
-#[derive(Drop)]
+#[derive(Clone, Copy)]
 pub struct Telling {
     pub kind: u8,
     pub number: u64,
@@ -79,7 +79,7 @@ fn show(line: Line, byte: u8, n: u64) -> Line
 }
 
 // A text up to the end of its line, with the number in its place.
-pub(crate) fn fill(text: &[u8], n: u64) -> Line
+fn fill(text: &[u8], n: u64) -> Line
     requires { length (filled n (of_line text.now)) ≤ 128 }
     ensures { Holds result (filled n (of_line text.now)) }
 {
@@ -210,7 +210,7 @@ fn ending_words(ending: Ending, n: u64, kind: u8, failed: u64) -> Line
 
 // What an answer means, with what `telling` gives for it.
 pub fn words_of(answer: Answer, telling: Telling) -> Line
-    ensures { Holds result (words_of answer telling) }
+    ensures { Holds result (wordsOf answer telling) }
 {
     match answer {
         Answer::Ok {
@@ -230,5 +230,36 @@ pub fn words_of(answer: Answer, telling: Telling) -> Line
             detail_of(number, place, divergence, telling.kind),
             telling.number,
         ),
+    }
+}
+
+// Whether the run may be resumed, and at which step.
+pub fn resume_of(answer: Answer) -> Line
+    ensures { Holds result (resumeOf answer) }
+{
+    match answer {
+        Answer::Ok {
+            ending,
+            stop,
+            records,
+            calls,
+            failed,
+        } => resumed(ending, stop),
+        Answer::No {
+            number,
+            place,
+            divergence,
+            calls,
+        } => fill(b"no", 0),
+    }
+}
+
+fn resumed(ending: Ending, stop: u64) -> Line
+    ensures { Holds result (filled stop (ascii (cond (stillToRun ending) "yes, step #" "no"))) }
+{
+    if ending.still_to_run() {
+        fill(b"yes, step #", stop)
+    } else {
+        fill(b"no", stop)
     }
 }

@@ -1,6 +1,8 @@
 // Replays a fixed list of calls: each line of standard input is a call, and what is written its answers. A cursor's `advance` is made
 // twice, by value and over a lent cursor, with a line for each.
 // The file stdout holds what the Rust answered to the same calls (docs/COMPARISON.md says how both were made).
+#![tactic(auto)]
+
 ghost use Rattle.std.specs.Prelude.{◌<◌, ◌≤◌, length};
 
 use core_exports::machines::{MachineAnswered, MachineNumbers, PendingNumbers, RequestNumbers};
@@ -11,7 +13,7 @@ use ids::RunId;
 use records::{Body, RecordRef, RecordRefOption};
 
 // The allocator, the cursor and the machine that the calls work on.
-#[derive(Drop)]
+#[derive(Clone, Copy)]
 struct Current {
     ids: IdsNumbers,
     cursor: Cursors,
@@ -19,14 +21,14 @@ struct Current {
 }
 
 // One cursor, advanced by value, and one that is lent for each call.
-#[derive(Drop)]
+#[derive(Clone, Copy)]
 struct Cursors {
     by_value: CursorNumbers,
     lent: ReplayCursor,
 }
 
 // The numbers of one line, and where the next line begins.
-#[derive(Drop)]
+#[derive(Clone, Copy)]
 struct Line {
     values: [u64; 12],
     next: usize,

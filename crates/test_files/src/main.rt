@@ -1,5 +1,7 @@
 // Reads a fixed list of good and damaged files: each line of standard input describes one, and each line that is written
 // says what reading it says. The file stdout holds what a plain Rust reader says of the same files (docs/COMPARISON.md).
+#![tactic(auto)]
+
 ghost use Rattle.std.specs.Prelude.{◌<◌, ◌≤◌, length};
 
 use hiskurdo::EntryNumbers;

@@ -1,6 +1,8 @@
 // The end of numbering, walked from a fresh machine: `RunStarted`, 2^32 markers, then all that can be done with the last number,
 // and all that is said of "no number left".
 // The cursors and the allocator that are tried are the walked machine's own.
+#![tactic(auto)]
+
 ghost use Rattle.std.specs.Prelude.{◌≡◌};
 ghost use Rattle.test_numbering.specs.Walk.{walk_rule, Marked};
 ghost use Rattle.test_numbering.specs.Turns.{to_last_rule, replaying_with, marks_in, marks_of};
@@ -15,14 +17,14 @@ mod lines;
 mod spent;
 
 // A machine, and how many markers it accepted.
-#[derive(Drop)]
+#[derive(Clone, Copy)]
 struct Counted {
     machine: ReplayMachine,
     markers: u64,
 }
 
 // The machine with one number left, the one with none, and how many markers were accepted.
-#[derive(Drop)]
+#[derive(Clone, Copy)]
 struct Walked {
     before: ReplayMachine,
     machine: ReplayMachine,

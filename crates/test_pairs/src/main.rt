@@ -1,6 +1,8 @@
 // The verdict and the handovers on a fixed list of pairs: two lines of standard input describe a journal and a plan. What
 // is written is the verdict's line, and a line for each of the boundaries 0 to 3. The file stdout holds what a plain Rust
 // twin over the real ReplayMachine says of the same pairs (docs/COMPARISON.md).
+#![tactic(auto)]
+
 ghost use Rattle.std.specs.Prelude.{◌≤◌, length};
 
 use histories::Handed;

@@ -2,13 +2,15 @@
 //
 // Owns: the form of a line (docs/COMPARISON.md, "The stored lists"). Must not own: what the file is read as.
 // Defends: a line of another form, or a file for which there is no room, writes nothing.
+#![tactic(auto)]
+
 ghost use Rattle.std.specs.Prelude.{true, ◌≡◌, ◌+◌, ◌*◌, ◌<◌, ◌≤◌, length, drop, get_or};
 ghost use Rattle.test_text.specs.Lines.{before, items, hex_digit, hex_byte, paired, hex_bytes, decimal_from, digits_of, times_of};
 ghost use Rattle.test_text.specs.Lines.{item_bytes, items_bytes, right, file_of, line_at, line_rule, over};
 ghost use Rattle.test_text.specs.Steps.{item_length, put};
 
 // A line's letter, where the next line begins, and how many bytes of the file there are.
-#[derive(Drop)]
+#[derive(Clone, Copy)]
 pub struct Described {
     pub letter: u8,
     pub next: usize,

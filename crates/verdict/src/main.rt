@@ -2,6 +2,8 @@
 // given, or of the one that it is run in.
 //
 // No contract can say what is read and printed: that is tested. The line that is printed for what was read is proved.
+#![tactic(auto)]
+
 ghost use Rattle.io.specs.Counts.{IsPrefixLen};
 ghost use Rattle.lines.specs.Line.{line_of, Holds};
 ghost use Rattle.resume.specs.Verdict.{verdict_rule};
