@@ -2,7 +2,15 @@
 import pathlib, re
 
 ROOT = pathlib.Path(__file__).resolve().parent.parent
-CLAIM = re.compile(r"# ([A-Za-z_][\w-]*(?:::\w+)*)(?: ([a-z0-9-]+))?: (.+)")
+CLAIM = re.compile(r"# ([A-Za-z_][\w-]*(?:::\w+)*)(?: ([a-z][\w-]*))?: (.+)")
+
+
+def listed():
+    """The crates of crates.txt, each with the crates of the repository below it."""
+    lines = [l.partition("#")[0].split(":") for l in (ROOT / "crates.txt").read_text().splitlines()]
+    found = {head.split()[0]: deps[0].split() for head, *deps in lines if deps}
+    below = lambda name: {it for dep in found[name] if dep in found for it in [dep, *below(dep)]}
+    return {name: below(name) for name in found}
 
 
 def libraries():
@@ -23,7 +31,7 @@ def functions(crate):
             elif line == "}":
                 owner = ""
             elif fn:
-                end = next(j for j in range(i, len(lines)) if lines[j].strip() == "{")
+                end = next(j for j in range(i, len(lines)) if lines[j].strip() == "{" or re.search(r"\)(?: -> .*)? \{$", lines[j]))
                 ensures = "\n".join(lines[i:end]).partition("ensures")[2]
                 found[(owner if line.startswith(" ") else module) + fn[1]] = (ensures, text)
     return found

@@ -1,7 +1,7 @@
-//! The proved code, linked as a static library: the exports of crates/core_exports.
+//! The proved code, linked as a static library: the exports of crates/core_exports_c.
 //!
 //! Every type here is plain numbers. Nothing checks these declarations against
-//! crates/core_exports/src, so whoever changes one must change the other.
+//! crates/core_exports/src and crates/core_exports_c/src, so whoever changes one must change the other.
 
 /// An answer in numbers: its own number, then its values, 0 where it has fewer than five.
 #[repr(C)]

@@ -1,4 +1,4 @@
-//! The proved code, linked as a static library: the exports of crates/hiskurdo.
+//! The proved code, linked as a static library: the exports of crates/hiskurdo_c.
 //!
 //! Nothing checks these declarations against its source, so the two are kept side by side.
 //! Where the library has no such export yet (see the features), the answer is nothing.

@@ -5,7 +5,6 @@ use mathlib.Core.Bool.{true}
 use borrow.Author.Tests.{le-ltb}
 use Rattle.errors.proofs.Arms.{by_arm}
 use Rattle.clocks.specs.declared.ClockCapability.{ClockCapability}
-use Rattle.clocks.specs.declared.ClockCapability.TheVariants as ClockCapability
 use Rattle.clocks.specs.declared.Deadline.{Deadline}
 use Rattle.clocks.specs.declared.DeadlineResult.TheVariants as DeadlineResult
 use Rattle.clocks.specs.declared.Timer.{Timer}

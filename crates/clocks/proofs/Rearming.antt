@@ -1,10 +1,9 @@
 -- The rearming law: a boot timer keeps the smallest reading, which no order changes; a persistent one keeps the recorded one.
-use Prim.Native.Nat.{ℕ, min, ◌≤◌}
+use Prim.Native.Nat.{ℕ, min}
 use mathlib.Core.Path.{◌≡◌, refl, sym, ap, subst, ◌∙◌}
 use mathlib.Core.List.{List, [], ◌∷◌}
 use native.Mathlib.Nat.{le_refl, le_trans, le_antisymm, min-le_left, min-le_right, le-min, min_comm, min-eq_left}
 use Rattle.clocks.specs.declared.TimerSpec.{TimerSpec}
-use Rattle.clocks.specs.declared.TimerSpec.TheVariants as TimerSpec
 use Rattle.clocks.specs.Specs.{rearmed_at}
 use Rattle.clocks.specs.Rearming.{rearmed_over, smallest, Reordered, Rearmed}
 use Rattle.clocks.specs.Rearming as R

@@ -2,13 +2,9 @@
 use Rattle.std.specs.Prelude.{ℕ, min, Bool, true, cond, eqb}
 use Rattle.ids.specs.declared.ClockKind.{ClockKind}
 use Rattle.clocks.specs.declared.TimerSpec.{TimerSpec}
-use Rattle.clocks.specs.declared.TimerSpec.TheVariants as TimerSpec
 use Rattle.clocks.specs.declared.TimerSpecOption.{TimerSpecOption}
-use Rattle.clocks.specs.declared.TimerSpecOption.TheVariants as TimerSpecOption
 use Rattle.clocks.specs.declared.ClockCapability.{ClockCapability}
-use Rattle.clocks.specs.declared.ClockCapability.TheVariants as ClockCapability
 use Rattle.clocks.specs.declared.ClockCapabilityOption.{ClockCapabilityOption}
-use Rattle.clocks.specs.declared.ClockCapabilityOption.TheVariants as ClockCapabilityOption
 
 -- "Clock kind 1 is `AfterBoot`, 2 `AtPersistentTime`"
 abbrev pub spec_clock : TimerSpec → ClockKind

@@ -2,17 +2,12 @@
 use Rattle.std.specs.Prelude.{ℕ, ◌-◌, cond, ltb, leb}
 use Rattle.errors.specs.Errors.{error}
 use Rattle.clocks.specs.declared.TimerSpec.{TimerSpec}
-use Rattle.clocks.specs.declared.TimerSpec.TheVariants as TimerSpec
 use Rattle.clocks.specs.declared.ClockCapability.{ClockCapability}
 use Rattle.clocks.specs.declared.AdmitsResult.{AdmitsResult}
-use Rattle.clocks.specs.declared.AdmitsResult.TheVariants as AdmitsResult
 use Rattle.clocks.specs.declared.Timer.{Timer}
 use Rattle.clocks.specs.declared.TimerResult.{TimerResult}
-use Rattle.clocks.specs.declared.TimerResult.TheVariants as TimerResult
 use Rattle.clocks.specs.declared.Deadline.{Deadline}
-use Rattle.clocks.specs.declared.Deadline.TheVariants as Deadline
 use Rattle.clocks.specs.declared.DeadlineResult.{DeadlineResult}
-use Rattle.clocks.specs.declared.DeadlineResult.TheVariants as DeadlineResult
 use Rattle.clocks.specs.Specs.{spec_clock, spec_deadline, admits_clock}
 
 -- a spec whose clock the board does not have is 25

@@ -2,15 +2,10 @@
 use Rattle.errors.specs.declared.Told.{Told}
 use Rattle.errors.specs.Told.{told0, told1, told2, told4, error_told}
 use Rattle.clocks.specs.declared.TimerSpecOption.{TimerSpecOption}
-use Rattle.clocks.specs.declared.TimerSpecOption.TheVariants as TimerSpecOption
 use Rattle.clocks.specs.declared.AdmitsResult.{AdmitsResult}
-use Rattle.clocks.specs.declared.AdmitsResult.TheVariants as AdmitsResult
 use Rattle.clocks.specs.declared.TimerResult.{TimerResult}
-use Rattle.clocks.specs.declared.TimerResult.TheVariants as TimerResult
 use Rattle.clocks.specs.declared.Deadline.{Deadline}
-use Rattle.clocks.specs.declared.Deadline.TheVariants as Deadline
 use Rattle.clocks.specs.declared.DeadlineResult.{DeadlineResult}
-use Rattle.clocks.specs.declared.DeadlineResult.TheVariants as DeadlineResult
 use Rattle.clocks.specs.Specs.{spec_clock, spec_deadline}
 
 abbrev pub timer_spec_option_told : TimerSpecOption → Told

@@ -99,30 +99,26 @@ pub struct AdvancedNumbers {
 
 // Identities.
 
-#[unsafe(no_mangle)]
-pub extern "C" fn hiskurdo_run_successor(run: u64) -> Told
+pub fn hiskurdo_run_successor(run: u64) -> Told
     ensures { result ≡ run_option_told (run_successor (record { 0 = run })) }
 {
     RunId(run).successor().told()
 }
 
-#[unsafe(no_mangle)]
-pub extern "C" fn hiskurdo_seq_successor(seq: u32) -> Told
+pub fn hiskurdo_seq_successor(seq: u32) -> Told
     ensures { result ≡ seq_option_told (seq_successor (record { 0 = seq })) }
 {
     EffectSeq(seq).successor().told()
 }
 
-#[unsafe(no_mangle)]
-pub extern "C" fn hiskurdo_ids_for_run(run: u64) -> IdsNumbers
+pub fn hiskurdo_ids_for_run(run: u64) -> IdsNumbers
     ensures { result ≡ ids_numbers (Allocator.fresh_ids (record { 0 = run })) }
 {
     ids_numbers(EffectIdAllocator::for_run(RunId(run)))
 }
 
 // `committed` 0: nothing was committed; 1: `last` was.
-#[unsafe(no_mangle)]
-pub extern "C" fn hiskurdo_ids_resume(run: u64, committed: u8, last: u32) -> AllocatedNumbers
+pub fn hiskurdo_ids_resume(run: u64, committed: u8, last: u32) -> AllocatedNumbers
     ensures { result ≡ resumed_by (record { run = run; next = last; offers = committed }) (offer_named committed last) }
 {
     match given::offer_of(committed, last) {
@@ -138,8 +134,7 @@ pub extern "C" fn hiskurdo_ids_resume(run: u64, committed: u8, last: u32) -> All
     }
 }
 
-#[unsafe(no_mangle)]
-pub extern "C" fn hiskurdo_ids_run(ids: IdsNumbers) -> Told
+pub fn hiskurdo_ids_run(ids: IdsNumbers) -> Told
     ensures { result ≡ of_ids (λ a. told1 0 a.run.0) (ids_named ids) }
 {
     match given::ids_of(ids) {
@@ -148,8 +143,7 @@ pub extern "C" fn hiskurdo_ids_run(ids: IdsNumbers) -> Told
     }
 }
 
-#[unsafe(no_mangle)]
-pub extern "C" fn hiskurdo_ids_peek(ids: IdsNumbers) -> Told
+pub fn hiskurdo_ids_peek(ids: IdsNumbers) -> Told
     ensures { result ≡ of_ids (λ a. seq_option_told a.next) (ids_named ids) }
 {
     match given::ids_of(ids) {
@@ -158,8 +152,7 @@ pub extern "C" fn hiskurdo_ids_peek(ids: IdsNumbers) -> Told
     }
 }
 
-#[unsafe(no_mangle)]
-pub extern "C" fn hiskurdo_ids_allocate(ids: IdsNumbers) -> AllocatedNumbers
+pub fn hiskurdo_ids_allocate(ids: IdsNumbers) -> AllocatedNumbers
     ensures { result ≡ allocated_by ids (ids_named ids) }
 {
     match given::ids_of(ids) {
@@ -170,8 +163,7 @@ pub extern "C" fn hiskurdo_ids_allocate(ids: IdsNumbers) -> AllocatedNumbers
 
 // Clocks and timers.
 
-#[unsafe(no_mangle)]
-pub extern "C" fn hiskurdo_spec_clock_kind(spec: SpecNumbers) -> Told
+pub fn hiskurdo_spec_clock_kind(spec: SpecNumbers) -> Told
     ensures { result ≡ of_spec (λ s. told1 0 (spec_clock s).0) (spec_named spec) }
 {
     match given::spec_of(spec) {
@@ -180,8 +172,7 @@ pub extern "C" fn hiskurdo_spec_clock_kind(spec: SpecNumbers) -> Told
     }
 }
 
-#[unsafe(no_mangle)]
-pub extern "C" fn hiskurdo_spec_deadline(spec: SpecNumbers) -> Told
+pub fn hiskurdo_spec_deadline(spec: SpecNumbers) -> Told
     ensures { result ≡ of_spec (λ s. told1 0 (spec_deadline s)) (spec_named spec) }
 {
     match given::spec_of(spec) {
@@ -190,8 +181,7 @@ pub extern "C" fn hiskurdo_spec_deadline(spec: SpecNumbers) -> Told
     }
 }
 
-#[unsafe(no_mangle)]
-pub extern "C" fn hiskurdo_spec_rearmed_at(spec: SpecNumbers, recorded: u64, now: u64) -> Told
+pub fn hiskurdo_spec_rearmed_at(spec: SpecNumbers, recorded: u64, now: u64) -> Told
     ensures { result ≡ of_spec (λ s. told1 0 (rearmed_at s recorded now)) (spec_named spec) }
 {
     match given::spec_of(spec) {
@@ -201,15 +191,13 @@ pub extern "C" fn hiskurdo_spec_rearmed_at(spec: SpecNumbers, recorded: u64, now
 }
 
 // A recorded clock is data: any may stand in a journal, and one that names no clock has no spec, which is an answer.
-#[unsafe(no_mangle)]
-pub extern "C" fn hiskurdo_spec_recorded(clock: u8, deadline: u64) -> Told
+pub fn hiskurdo_spec_recorded(clock: u8, deadline: u64) -> Told
     ensures { result ≡ timer_spec_option_told (recorded_spec (record { 0 = clock }) deadline) }
 {
     TimerSpec::recorded(ClockKind(clock), deadline).told()
 }
 
-#[unsafe(no_mangle)]
-pub extern "C" fn hiskurdo_admits(capability: u8, spec: SpecNumbers) -> Told
+pub fn hiskurdo_admits(capability: u8, spec: SpecNumbers) -> Told
     ensures { result ≡ of_board (λ b. of_spec (λ s. admits_result_told (admission b s)) (spec_named spec)) (capability_of capability) }
 {
     match ClockCapability::of(capability as u64) {
@@ -221,8 +209,7 @@ pub extern "C" fn hiskurdo_admits(capability: u8, spec: SpecNumbers) -> Told
     }
 }
 
-#[unsafe(no_mangle)]
-pub extern "C" fn hiskurdo_timer_arm(spec: SpecNumbers, capability: u8, now: u64) -> Told
+pub fn hiskurdo_timer_arm(spec: SpecNumbers, capability: u8, now: u64) -> Told
     ensures { result ≡ of_board (λ b. of_spec (λ s. timer_result_told (armed s b now)) (spec_named spec)) (capability_of capability) }
 {
     match ClockCapability::of(capability as u64) {
@@ -234,8 +221,7 @@ pub extern "C" fn hiskurdo_timer_arm(spec: SpecNumbers, capability: u8, now: u64
     }
 }
 
-#[unsafe(no_mangle)]
-pub extern "C" fn hiskurdo_timer_evaluate(spec: SpecNumbers, armed_at: u64, reading: u64) -> Told
+pub fn hiskurdo_timer_evaluate(spec: SpecNumbers, armed_at: u64, reading: u64) -> Told
     ensures { result ≡
         of_spec (λ s. deadline_result_told (evaluation (record { spec = s; armed_at = armed_at }) reading)) (spec_named spec) }
 {
@@ -250,8 +236,7 @@ pub extern "C" fn hiskurdo_timer_evaluate(spec: SpecNumbers, armed_at: u64, read
 
 // Records and the cursor.
 
-#[unsafe(no_mangle)]
-pub extern "C" fn hiskurdo_record_kind(record: RecordNumbers) -> Told
+pub fn hiskurdo_record_kind(record: RecordNumbers) -> Told
     ensures { result ≡ of_record (λ x. told1 0 (kind_number x)) (record_named «record») }
 {
     match given::record_of(record) {
@@ -260,15 +245,13 @@ pub extern "C" fn hiskurdo_record_kind(record: RecordNumbers) -> Told
     }
 }
 
-#[unsafe(no_mangle)]
-pub extern "C" fn hiskurdo_cursor_new(run: u64) -> CursorNumbers
+pub fn hiskurdo_cursor_new(run: u64) -> CursorNumbers
     ensures { result ≡ cursor_numbers (fresh_cursor (record { 0 = run })) }
 {
     cursor_numbers(ReplayCursor::new(RunId(run)))
 }
 
-#[unsafe(no_mangle)]
-pub extern "C" fn hiskurdo_cursor_run(cursor: CursorNumbers) -> Told
+pub fn hiskurdo_cursor_run(cursor: CursorNumbers) -> Told
     ensures { result ≡ of_cursor (λ c. told1 0 (run_of c).0) (cursor_named cursor) }
 {
     match given::cursor_of(cursor) {
@@ -277,8 +260,7 @@ pub extern "C" fn hiskurdo_cursor_run(cursor: CursorNumbers) -> Told
     }
 }
 
-#[unsafe(no_mangle)]
-pub extern "C" fn hiskurdo_cursor_position(cursor: CursorNumbers) -> Told
+pub fn hiskurdo_cursor_position(cursor: CursorNumbers) -> Told
     ensures { result ≡ of_cursor (λ c. position_told (position_of c)) (cursor_named cursor) }
 {
     match given::cursor_of(cursor) {
@@ -287,8 +269,7 @@ pub extern "C" fn hiskurdo_cursor_position(cursor: CursorNumbers) -> Told
     }
 }
 
-#[unsafe(no_mangle)]
-pub extern "C" fn hiskurdo_cursor_is_terminal(cursor: CursorNumbers) -> Told
+pub fn hiskurdo_cursor_is_terminal(cursor: CursorNumbers) -> Told
     ensures { result ≡ of_cursor (λ c. told1 0 (cond (terminal_at (position_of c)) 1 0)) (cursor_named cursor) }
 {
     match given::cursor_of(cursor) {
@@ -297,8 +278,7 @@ pub extern "C" fn hiskurdo_cursor_is_terminal(cursor: CursorNumbers) -> Told
     }
 }
 
-#[unsafe(no_mangle)]
-pub extern "C" fn hiskurdo_cursor_pending(cursor: CursorNumbers) -> Told
+pub fn hiskurdo_cursor_pending(cursor: CursorNumbers) -> Told
     ensures { result ≡ of_cursor (λ c. pending_effect_option_told (pending_of c)) (cursor_named cursor) }
 {
     match given::cursor_of(cursor) {
@@ -307,8 +287,7 @@ pub extern "C" fn hiskurdo_cursor_pending(cursor: CursorNumbers) -> Told
     }
 }
 
-#[unsafe(no_mangle)]
-pub extern "C" fn hiskurdo_cursor_pending_timer(cursor: CursorNumbers) -> Told
+pub fn hiskurdo_cursor_pending_timer(cursor: CursorNumbers) -> Told
     ensures { result ≡ of_cursor (λ c. pending_timer_option_told (pending_timer_of c)) (cursor_named cursor) }
 {
     match given::cursor_of(cursor) {
@@ -317,8 +296,7 @@ pub extern "C" fn hiskurdo_cursor_pending_timer(cursor: CursorNumbers) -> Told
     }
 }
 
-#[unsafe(no_mangle)]
-pub extern "C" fn hiskurdo_cursor_failed(cursor: CursorNumbers) -> Told
+pub fn hiskurdo_cursor_failed(cursor: CursorNumbers) -> Told
     ensures { result ≡ of_cursor (λ c. told1 0 (failed_of c)) (cursor_named cursor) }
 {
     match given::cursor_of(cursor) {
@@ -327,8 +305,7 @@ pub extern "C" fn hiskurdo_cursor_failed(cursor: CursorNumbers) -> Told
     }
 }
 
-#[unsafe(no_mangle)]
-pub extern "C" fn hiskurdo_cursor_next_seq(cursor: CursorNumbers) -> Told
+pub fn hiskurdo_cursor_next_seq(cursor: CursorNumbers) -> Told
     ensures { result ≡ of_cursor (λ c. seq_option_told (next_seq_of c)) (cursor_named cursor) }
 {
     match given::cursor_of(cursor) {
@@ -337,8 +314,7 @@ pub extern "C" fn hiskurdo_cursor_next_seq(cursor: CursorNumbers) -> Told
     }
 }
 
-#[unsafe(no_mangle)]
-pub extern "C" fn hiskurdo_cursor_next_effect_id(cursor: CursorNumbers) -> Told
+pub fn hiskurdo_cursor_next_effect_id(cursor: CursorNumbers) -> Told
     ensures { result ≡ of_cursor (λ c. effect_id_result_told (next_effect_id_of c)) (cursor_named cursor) }
 {
     match given::cursor_of(cursor) {
@@ -347,11 +323,7 @@ pub extern "C" fn hiskurdo_cursor_next_effect_id(cursor: CursorNumbers) -> Told
     }
 }
 
-#[unsafe(no_mangle)]
-pub extern "C" fn hiskurdo_cursor_advance(
-    cursor: CursorNumbers,
-    record: RecordNumbers,
-) -> AdvancedNumbers
+pub fn hiskurdo_cursor_advance(cursor: CursorNumbers, record: RecordNumbers) -> AdvancedNumbers
     ensures { result ≡ cursor_advanced_by cursor (cursor_named cursor) (record_named «record») }
 {
     match given::cursor_of(cursor) {

@@ -62,8 +62,7 @@ pub struct MachineAnswered {
     pub answer: Told,
 }
 
-#[unsafe(no_mangle)]
-pub extern "C" fn hiskurdo_divergence_from(
+pub fn hiskurdo_divergence_from(
     request: RequestNumbers,
     recorded: PendingNumbers,
     run: u64,
@@ -82,15 +81,13 @@ pub extern "C" fn hiskurdo_divergence_from(
         .number()
 }
 
-#[unsafe(no_mangle)]
-pub extern "C" fn hiskurdo_machine_new(run: u64) -> MachineNumbers
+pub fn hiskurdo_machine_new(run: u64) -> MachineNumbers
     ensures { result ≡ machine_numbers (Phases.fresh_machine (record { 0 = run })) }
 {
     machine_numbers(ReplayMachine::new(RunId(run)))
 }
 
-#[unsafe(no_mangle)]
-pub extern "C" fn hiskurdo_machine_run(machine: MachineNumbers) -> Told
+pub fn hiskurdo_machine_run(machine: MachineNumbers) -> Told
     ensures { result ≡ of_machine (λ m. told1 0 (run_of m.cursor).0) (machine_named machine) }
 {
     match given::machine_of(machine) {
@@ -99,8 +96,7 @@ pub extern "C" fn hiskurdo_machine_run(machine: MachineNumbers) -> Told
     }
 }
 
-#[unsafe(no_mangle)]
-pub extern "C" fn hiskurdo_machine_position(machine: MachineNumbers) -> Told
+pub fn hiskurdo_machine_position(machine: MachineNumbers) -> Told
     ensures { result ≡ of_machine (λ m. position_told (position_of m.cursor)) (machine_named machine) }
 {
     match given::machine_of(machine) {
@@ -109,8 +105,7 @@ pub extern "C" fn hiskurdo_machine_position(machine: MachineNumbers) -> Told
     }
 }
 
-#[unsafe(no_mangle)]
-pub extern "C" fn hiskurdo_machine_pending(machine: MachineNumbers) -> Told
+pub fn hiskurdo_machine_pending(machine: MachineNumbers) -> Told
     ensures { result ≡
         of_machine (λ m. pending_effect_option_told (pending_of m.cursor)) (machine_named machine) }
 {
@@ -120,8 +115,7 @@ pub extern "C" fn hiskurdo_machine_pending(machine: MachineNumbers) -> Told
     }
 }
 
-#[unsafe(no_mangle)]
-pub extern "C" fn hiskurdo_machine_pending_timer(machine: MachineNumbers) -> Told
+pub fn hiskurdo_machine_pending_timer(machine: MachineNumbers) -> Told
     ensures { result ≡
         of_machine (λ m. pending_timer_option_told (pending_timer_of m.cursor)) (machine_named machine) }
 {
@@ -131,8 +125,7 @@ pub extern "C" fn hiskurdo_machine_pending_timer(machine: MachineNumbers) -> Tol
     }
 }
 
-#[unsafe(no_mangle)]
-pub extern "C" fn hiskurdo_machine_failed(machine: MachineNumbers) -> Told
+pub fn hiskurdo_machine_failed(machine: MachineNumbers) -> Told
     ensures { result ≡ of_machine (λ m. told1 0 (failed_of m.cursor)) (machine_named machine) }
 {
     match given::machine_of(machine) {
@@ -141,8 +134,7 @@ pub extern "C" fn hiskurdo_machine_failed(machine: MachineNumbers) -> Told
     }
 }
 
-#[unsafe(no_mangle)]
-pub extern "C" fn hiskurdo_machine_diverged(machine: MachineNumbers) -> Told
+pub fn hiskurdo_machine_diverged(machine: MachineNumbers) -> Told
     ensures { result ≡ of_machine (λ m. told1 0 (divergence_option_number (Phases.diverged_in m.phase))) (machine_named machine) }
 {
     match given::machine_of(machine) {
@@ -151,11 +143,7 @@ pub extern "C" fn hiskurdo_machine_diverged(machine: MachineNumbers) -> Told
     }
 }
 
-#[unsafe(no_mangle)]
-pub extern "C" fn hiskurdo_machine_advance(
-    machine: MachineNumbers,
-    record: RecordNumbers,
-) -> MachineAnswered
+pub fn hiskurdo_machine_advance(machine: MachineNumbers, record: RecordNumbers) -> MachineAnswered
     ensures { result ≡ machine_advanced_by machine (machine_named machine) (record_named «record») }
 {
     match given::machine_of(machine) {
@@ -171,8 +159,7 @@ pub extern "C" fn hiskurdo_machine_advance(
     }
 }
 
-#[unsafe(no_mangle)]
-pub extern "C" fn hiskurdo_machine_intent(
+pub fn hiskurdo_machine_intent(
     machine: MachineNumbers,
     request: RequestNumbers,
     ended: u8,
@@ -194,8 +181,7 @@ pub extern "C" fn hiskurdo_machine_intent(
     }
 }
 
-#[unsafe(no_mangle)]
-pub extern "C" fn hiskurdo_machine_outcome(
+pub fn hiskurdo_machine_outcome(
     machine: MachineNumbers,
     ended: u8,
     record: RecordNumbers,
@@ -215,8 +201,7 @@ pub extern "C" fn hiskurdo_machine_outcome(
     }
 }
 
-#[unsafe(no_mangle)]
-pub extern "C" fn hiskurdo_machine_timer_intent(
+pub fn hiskurdo_machine_timer_intent(
     machine: MachineNumbers,
     spec: SpecNumbers,
     capability: u8,
@@ -245,8 +230,7 @@ pub extern "C" fn hiskurdo_machine_timer_intent(
     }
 }
 
-#[unsafe(no_mangle)]
-pub extern "C" fn hiskurdo_machine_timer_outcome(
+pub fn hiskurdo_machine_timer_outcome(
     machine: MachineNumbers,
     ended: u8,
     record: RecordNumbers,

@@ -1,7 +1,6 @@
 -- The refusals and their numbers: 01, "Refused inputs".
 use Rattle.std.specs.Prelude.{ℕ, ◌-◌, List, [], ◌∷◌, get_or}
 use Rattle.errors.specs.declared.KernelError.{KernelError}
-use Rattle.errors.specs.declared.KernelError.TheVariants as KernelError
 
 -- the number of each refusal
 abbrev pub error_number : KernelError → ℕ

@@ -4,7 +4,7 @@ use mathlib.Core.Path.{◌≡◌, refl, ap, ◌∙◌, sym, subst}
 use mathlib.Core.List.{List}
 use native.Mathlib.Numerals.{add-one}
 use native.Mathlib.Omega.{arith}
-use lib.ListN.{length, take, drop, get_or, set, length-set}
+use lib.ListN.{length, drop, get_or, set, length-set}
 use lib.Seq.{paste, paste-zero, paste-suc, drop-paste, length-take-le}
 use Rattle.file_bytes.specs.Loaded.{Loaded}
 

@@ -3,7 +3,6 @@ use Rattle.std.specs.Prelude.{ℕ, Bool, true, false, cond, ◌&&◌, ◌||◌, 
 use Prim.Native.Char.{code}
 use Prim.Native.String.{String, [] as «end», ◌∷◌ as ◌then◌}
 use Rattle.file_bytes.specs.declared.names.Asked.{Asked}
-use Rattle.file_bytes.specs.declared.names.Asked.TheVariants as Asked
 
 -- a control byte is shown as `?`, so that none in a folder's name ends its field or the row
 abbrev pub clean : ℕ → ℕ

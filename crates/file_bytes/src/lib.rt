@@ -9,37 +9,50 @@ pub mod names;
 
 ghost use Rattle.std.specs.Prelude.{◌≤◌, min, ◌≡◌, length};
 ghost use Rattle.std.proofs.Math.Seq.{paste};
-ghost use Rattle.io.specs.Counts.{IsPrefixLen};
+ghost use Rattle.file_bytes.specs.Counts.{IsPrefixLen};
 ghost use Rattle.file_bytes.specs.Loaded.{Loaded};
+
+use std::env::FillError;
+use std::fs::File;
+use std::io;
+use std::io::{ErrorKind, Read};
+use std::rt::Env;
+
+// The system's longest path, with the zero that ends it there.
+pub const PATH_MAX: usize = 4096;
+
+// The system's number for a path that is longer.
+const ENAMETOOLONG: i32 = 36;
 
 // The bytes that are read of a file: more than the longest file has, so that a longer one is seen to be too long.
 pub const ROOM: usize = 32770;
 
 // How many bytes of a folder's file stand at the start of room, at most `ROOM`. 0 for a file that cannot be read.
-pub fn contents(folder: &[u8], file: &[u8], room: &mut [u8]) -> usize
+pub fn contents(rt: &HostRuntime, folder: &[u8], file: &[u8], room: &mut [u8]) -> usize
     ensures { Loaded room.old result room.new }
 {
     let mut path = [0u8; 4608];
     let len = path_of(folder, file, &mut path);
     let mut own = [0u8; ROOM];
-    let n = read_file(&path[..len], &mut own);
+    let n = read_file(rt, &path[..len], &mut own);
     put(&own[..n], room)
 }
 
 // Copies an argument to the start of name and returns its length. Of one that is longer than a path can be it copies the beginning.
 // 0 where it is missing or empty.
-pub fn argument(i: usize, name: &mut [u8]) -> usize
+pub fn argument(rt: &HostRuntime, i: usize, name: &mut [u8]) -> usize
     ensures { Loaded name.old result name.new }
 {
-    let mut own = io::buffer();
-    let n = os::arg(i, &mut own);
-    if os::errno() == libc::ENAMETOOLONG {
-        return put(&own, name);
+    let mut own = [0u8; PATH_MAX];
+    match rt.arg(i, &mut own) {
+        Ok(n) => put(&own[..n], name),
+        Err(FillError::TooLong) => put(&own, name),
+        Err(FillError::NotPresent) => 0,
     }
-    put(&own[..n], name)
 }
 
 // Copies a text to the start of a room, as far as it fits, and returns how many bytes were copied.
+#[tactic(auto, using(crate::proofs::Putting::putting_none, crate::proofs::Putting::putting_more, crate::proofs::Putting::putting_loaded))]
 fn put(text: &[u8], room: &mut [u8]) -> usize
     ensures value { result ≡ min (length text.now) (length room.old) }
     ensures room_after { room.new ≡ paste room.old 0 text.now result }
@@ -83,35 +96,46 @@ fn append(path: &mut [u8], at: usize, text: &[u8]) -> usize
 }
 
 // Reads a file and returns how many bytes it has. Where the system refuses it: 0, and the reason on standard error.
-fn read_file(path: &[u8], room: &mut [u8]) -> usize
+fn read_file(rt: &HostRuntime, path: &[u8], room: &mut [u8]) -> usize
     ensures { IsPrefixLen result room.new }
 {
-    let fd = os::open_read(path);
-    if fd < 0 {
-        names::refused(path);
-        return 0;
+    match open(rt, path) {
+        Ok(mut file) => read_all(rt, &mut file, path, room),
+        Err(error) => {
+            names::refused(rt, path, error);
+            0
+        }
     }
-    let n = read_all(fd, path, room);
-    libc::close(fd);
-    n
+}
+
+// The library opens no path that is not UTF-8.
+fn open(rt: &HostRuntime, path: &[u8]) -> io::Result<File> {
+    if path.len() >= PATH_MAX {
+        return Err(io::Error::from_raw_os_error(ENAMETOOLONG));
+    }
+    match str::from_utf8(path) {
+        Ok(text) => File::open(rt, text),
+        Err(_) => Err(io::Error::new(
+            ErrorKind::InvalidFilename,
+            "a path that is not UTF-8 is not opened",
+        )),
+    }
 }
 
 // Reads to the file's end or until room is full; 0 where a read fails.
-fn read_all(fd: i32, path: &[u8], room: &mut [u8]) -> usize
+fn read_all(rt: &HostRuntime, file: &mut File, path: &[u8], room: &mut [u8]) -> usize
     ensures { IsPrefixLen result room.new }
 {
     let mut done: usize = 0;
     while done < room.len() {
-        let got = libc::read(fd, &mut room[done..]);
-        if got < 0 {
-            names::refused(path);
-            return 0;
+        match file.read(&mut room[done..]) {
+            Ok(0) => return done,
+            Ok(n) => done += n,
+            Err(error) => {
+                names::refused(rt, path, error);
+                return 0;
+            }
         }
-        let n = io::count(got, &room[done..]);
-        if n == 0 {
-            return done;
-        }
-        done += n;
     }
     done
 }

@@ -2,8 +2,11 @@
 //
 // Defends: no byte of a name moves the cursor of a terminal, ends a field or a row; an option is not taken for a folder.
 ghost use Rattle.std.specs.Prelude.{◌≡◌, eqb, get_or};
-ghost use Rattle.io.specs.Counts.{IsPrefixLen};
+ghost use Rattle.file_bytes.specs.Counts.{IsPrefixLen};
 ghost use Rattle.file_bytes.specs.Names.{clean, same_bytes, asked_for};
+
+use std::fmt::InlineText;
+use std::io;
 
 // What an argument asks for.
 #[derive(Clone, Copy)]
@@ -25,6 +28,7 @@ pub fn clean(byte: u8) -> u8
     }
 }
 
+#[tactic(auto, using(crate::proofs::Same::same_long, crate::proofs::Same::same_on, crate::proofs::Same::same_off, crate::proofs::Same::same_over))]
 fn same(a: &[u8], b: &[u8]) -> bool
     ensures { result ≡ same_bytes a.now b.now }
 {
@@ -66,15 +70,33 @@ fn dashed(argument: &[u8]) -> bool
     argument[0] == b'-'
 }
 
-// Says on standard error why the system refused a file, by its path and the system's own reason.
-pub(crate) fn refused(path: &[u8]) {
+// Says on standard error why the system refused a file, by its path and the system's own reason. What cannot be written is lost.
+pub(crate) fn refused(rt: &HostRuntime, path: &[u8], error: io::Error) {
     if path.len() == 0 {
-        os::fail(b"the empty name");
+        fail(rt, b"the empty name", error);
         return;
     }
-    let mut shown = io::buffer();
+    let mut shown = [0u8; crate::PATH_MAX];
     let n = show(path, &mut shown);
-    os::fail(&shown[..n]);
+    fail(rt, &shown[..n], error);
+}
+
+// Writes a line to standard error: what failed, a colon and the system's reason.
+fn fail(rt: &HostRuntime, what: &[u8], error: io::Error) {
+    let to = rt.stderr();
+    let words = InlineText::<256>::of(error);
+    let _ = to.write_all(what);
+    let _ = to.write_all(b": ");
+    let _ = to.write_all(without_number(words.as_str()).as_bytes());
+    let _ = to.write_all(b"\n");
+}
+
+// The library writes the error's number behind the system's words.
+fn without_number(words: &str) -> &str {
+    match words.rsplit_once(" (os error ") {
+        Some((front, _)) => front,
+        None => words,
+    }
 }
 
 // Writes a name as it is shown to the start of room, as far as it fits.

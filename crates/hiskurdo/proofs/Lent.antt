@@ -1,12 +1,12 @@
 -- Laws of a lent buffer: the bytes of a text copied so far, what is lent in the end, and the text that a line holds.
 use Prim.Native.Nat.{ℕ, ◌+◌, ◌≤◌, ◌<◌}
 use mathlib.Core.Path.{◌≡◌, refl, sym, ap, ◌∙◌}
-use mathlib.Core.List.{List, ◌++◌}
+use mathlib.Core.List.{List}
 use native.Mathlib.Nat.{zero-add}
 use native.Mathlib.Numerals.{add-one}
 use native.Mathlib.Omega.{arith}
 use borrow.Author.Tests.{le-leb, lt-leb}
-use lib.ListN.{length, take, drop, get_or, set, length-set}
+use lib.ListN.{length, take, get_or, set, length-set}
 use lib.Seq.{paste, paste-zero, paste-suc, take-length}
 use Rattle.lines.specs.declared.Line.{Line}
 use Rattle.lines.specs.Line.{Holds}

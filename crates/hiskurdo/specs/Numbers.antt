@@ -1,17 +1,12 @@
 -- The answers of the files' reader in numbers, as Rust or C sees them.
-use Rattle.std.specs.Prelude.{ℕ}
 use Rattle.errors.specs.declared.Told.{Told}
 use Rattle.records.specs.declared.Body.{Body}
 use Rattle.records.specs.declared.RecordRef.{RecordRef}
-use Rattle.records.specs.declared.RecordRef.TheVariants as RecordRef
 use Rattle.files.specs.declared.Entry.{Entry}
 use Rattle.files.specs.declared.PlanStep.{PlanStep}
-use Rattle.files.specs.declared.PlanStep.TheVariants as PlanStep
 use Rattle.files.specs.declared.StepRequest.TheVariants as StepRequest
 use Rattle.files.specs.declared.RecordOption.{RecordOption}
-use Rattle.files.specs.declared.RecordOption.TheVariants as RecordOption
 use Rattle.files.specs.declared.StepOption.{StepOption}
-use Rattle.files.specs.declared.StepOption.TheVariants as StepOption
 use Rattle.files.specs.declared.Walk.{Walk}
 use Rattle.files.specs.Encoding.{entry_with, record_entry, step_entry}
 use Rattle.hiskurdo.specs.declared.ReadNumbers.{ReadNumbers}

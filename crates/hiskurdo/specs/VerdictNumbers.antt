@@ -1,7 +1,6 @@
 -- The verdict and the handover in numbers, as Rust or C sees them.
 use Rattle.errors.specs.declared.Told.{Told}
 use Rattle.histories.specs.declared.Answer.{Answer}
-use Rattle.histories.specs.declared.Answer.TheVariants as Answer
 use Rattle.endings.specs.Endings.{ending_number}
 use Rattle.hiskurdo.specs.declared.verdicts.HandoverNumbers.{HandoverNumbers}
 use Rattle.hiskurdo.specs.declared.verdicts.VerdictNumbers.{VerdictNumbers}

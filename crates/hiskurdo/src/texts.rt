@@ -36,8 +36,7 @@ fn lend_line(room: &mut [u8], line: Line) -> u64
 }
 
 // The verdict's line, with its line feed.
-#[unsafe(no_mangle)]
-pub extern "C" fn hiskurdo_verdict_line(journal: &[u8], plan: &[u8], text: &mut [u8]) -> u64
+pub fn hiskurdo_verdict_line(journal: &[u8], plan: &[u8], text: &mut [u8]) -> u64
     ensures text_after { (result, text.new) ≡ lent (line_of (verdict_rule journal.now plan.now)) text.old }
     ensures sized { Sized (line_of (verdict_rule journal.now plan.now)) }
 {
@@ -45,8 +44,7 @@ pub extern "C" fn hiskurdo_verdict_line(journal: &[u8], plan: &[u8], text: &mut 
 }
 
 // What the verdict means in plain words, without a line feed.
-#[unsafe(no_mangle)]
-pub extern "C" fn hiskurdo_verdict_words(journal: &[u8], plan: &[u8], text: &mut [u8]) -> u64
+pub fn hiskurdo_verdict_words(journal: &[u8], plan: &[u8], text: &mut [u8]) -> u64
     ensures text_after { (result, text.new) ≡ lent (words_for journal.now plan.now) text.old }
     ensures sized { Sized (words_for journal.now plan.now) }
 {
@@ -56,8 +54,7 @@ pub extern "C" fn hiskurdo_verdict_words(journal: &[u8], plan: &[u8], text: &mut
 }
 
 // The version in one number, as the programs print it in text.
-#[unsafe(no_mangle)]
-pub extern "C" fn hiskurdo_version() -> u64
+pub fn hiskurdo_version() -> u64
     ensures value { result ≡ version_number 0 2 0 }
     ensures version_text_value { version_text 0 2 0 ≡ version_line }
 {

@@ -36,8 +36,7 @@ pub struct HandoverNumbers {
     pub len: u64,
 }
 
-#[unsafe(no_mangle)]
-pub extern "C" fn hiskurdo_verdict(journal: &[u8], plan: &[u8]) -> VerdictNumbers
+pub fn hiskurdo_verdict(journal: &[u8], plan: &[u8]) -> VerdictNumbers
     ensures { result ≡ verdict_numbers (verdict_rule journal.now plan.now) }
 {
     match resume::verdict(journal, plan) {
@@ -88,8 +87,7 @@ fn given(what: u64, body: Body) -> HandoverNumbers
     }
 }
 
-#[unsafe(no_mangle)]
-pub extern "C" fn hiskurdo_handover(journal: &[u8], plan: &[u8], boundary: u64) -> HandoverNumbers
+pub fn hiskurdo_handover(journal: &[u8], plan: &[u8], boundary: u64) -> HandoverNumbers
     ensures { result ≡ handover_numbers (handed_told (handed_rule journal.now plan.now boundary)) }
 {
     match handing::handover_case(journal, plan, boundary) {

@@ -2,11 +2,8 @@
 use Rattle.errors.specs.declared.Told.{Told}
 use Rattle.errors.specs.Told.{told0, told1, told2, error_told}
 use Rattle.ids.specs.declared.RunOption.{RunOption}
-use Rattle.ids.specs.declared.RunOption.TheVariants as RunOption
 use Rattle.ids.specs.declared.SeqOption.{SeqOption}
-use Rattle.ids.specs.declared.SeqOption.TheVariants as SeqOption
 use Rattle.ids.specs.declared.EffectIdResult.{EffectIdResult}
-use Rattle.ids.specs.declared.EffectIdResult.TheVariants as EffectIdResult
 
 abbrev pub run_option_told : RunOption → Told
 run_option_told (RunOption.Some run) = told1 1 run.0

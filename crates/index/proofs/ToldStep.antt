@@ -1,18 +1,16 @@
 -- Where the verdict is 45, the words show the step at which the run was completed, as the promise of demand 3 says it (`TooSoon`).
 use Prim.Native.Nat.{ℕ}
-use mathlib.Core.Path.{◌≡◌, refl, sym, ap, subst, ◌∙◌}
+use mathlib.Core.Path.{◌≡◌, refl, sym, subst}
 use mathlib.Core.List.{List}
 use lib.Dec.{T}
 use Rattle.clocks.specs.declared.ClockCapability.{ClockCapability}
 use Rattle.records.specs.Records.{among}
 use Rattle.files.specs.declared.Format.TheVariants as Format
 use Rattle.files.specs.declared.FileRead.{FileRead}
-use Rattle.files.specs.declared.FileRead.TheVariants as FileRead
 use Rattle.files.specs.Reading.{reading_numbers, read_rule}
 use Rattle.files.specs.Contents.{records_of, steps_of}
 use Rattle.files.proofs.Laws.{whole, refused_reading_lem}
 use Rattle.histories.specs.declared.Answer.{Answer}
-use Rattle.histories.specs.declared.Answer.TheVariants as Answer
 use Rattle.histories.specs.Promise.{TooSoon}
 use Rattle.lines.specs.Telling.{telling_of}
 use Rattle.lines.proofs.ShownStep.{shown_step}

@@ -10,14 +10,11 @@ use Rattle.records.specs.declared.RecordRef.{RecordRef}
 use Rattle.records.specs.Records.{among, opener_kinds}
 use Rattle.files.specs.declared.Format.TheVariants as Format
 use Rattle.files.specs.declared.FileRead.{FileRead}
-use Rattle.files.specs.declared.FileRead.TheVariants as FileRead
 use Rattle.files.specs.declared.PlanStep.{PlanStep}
 use Rattle.files.specs.Reading.{reading_numbers, read_rule, as_journal, as_plan, journal_rule, plan_rule}
 use Rattle.files.proofs.Laws.{refused_reading_lem}
 use Rattle.histories.specs.declared.Answer.{Answer}
-use Rattle.histories.specs.declared.Answer.TheVariants as Answer
 use Rattle.endings.specs.declared.Ending.{Ending}
-use Rattle.endings.specs.declared.Ending.TheVariants as Ending
 use Rattle.histories.specs.Checklist.{refusal_numbers, divergences_of}
 use Rattle.histories.specs.Promise.{Promise}
 use Rattle.histories.proofs.Whole.{promise_listed}

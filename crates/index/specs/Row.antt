@@ -1,5 +1,5 @@
 -- The row of a run folder: its name, whether it may be resumed and at which step, the verdict's line, and plain words.
-use Rattle.std.specs.Prelude.{ℕ, ◌+◌, ◌-◌, List, [], ◌∷◌, ◌++◌, length, take}
+use Rattle.std.specs.Prelude.{ℕ, ◌-◌, List, [], ◌∷◌, ◌++◌, length, take}
 use Rattle.histories.specs.declared.Answer.{Answer}
 use Rattle.lines.specs.declared.words.Telling.{Telling}
 use Rattle.lines.specs.Line.{line_of}

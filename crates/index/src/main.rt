@@ -9,25 +9,42 @@ mod rows;
 ghost use Rattle.std.specs.Prelude.{◌≤◌, length};
 
 use file_bytes::names::Asked;
+use std::env::FillError;
+use std::rt::Env;
 
-fn main() {
-    let count = os::arg_count();
-    match asked_by(count) {
-        Asked::Folder => folders(count),
-        Asked::Help => usage(1),
-        Asked::Version => version(),
-        Asked::Unknown => usage(2),
+fn main(rt: HostRuntime) {
+    let count = argument_count(&rt);
+    match asked_by(&rt, count) {
+        Asked::Folder => folders(&rt, count),
+        Asked::Help => usage(&rt.stdout()),
+        Asked::Version => version(&rt),
+        Asked::Unknown => usage(&rt.stderr()),
     }
 }
 
+// How many arguments the program was started with, its own name among them.
+fn argument_count(rt: &HostRuntime) -> usize {
+    for i in 0..usize::MAX {
+        if !is_given(rt, i) {
+            return i;
+        }
+    }
+    usize::MAX
+}
+
+fn is_given(rt: &HostRuntime, i: usize) -> bool {
+    let mut first = [0u8; 1];
+    !matches!(rt.arg(i, &mut first), Err(FillError::NotPresent))
+}
+
 // What the arguments ask for: the first that is no folder decides. Without an argument nothing is asked.
-fn asked_by(count: usize) -> Asked {
+fn asked_by(rt: &HostRuntime, count: usize) -> Asked {
     if count < 2 {
         return Asked::Unknown;
     }
     let mut i = 1;
     while i < count {
-        let asked = asked_at(i);
+        let asked = asked_at(rt, i);
         if !is_folder(asked) {
             return asked;
         }
@@ -36,9 +53,9 @@ fn asked_by(count: usize) -> Asked {
     Asked::Folder
 }
 
-fn asked_at(i: usize) -> Asked {
-    let mut name = io::buffer();
-    let n = file_bytes::argument(i, &mut name);
+fn asked_at(rt: &HostRuntime, i: usize) -> Asked {
+    let mut name = [0u8; file_bytes::PATH_MAX];
+    let n = file_bytes::argument(rt, i, &mut name);
     file_bytes::names::asked_for(&name[..n])
 }
 
@@ -49,9 +66,9 @@ fn is_folder(asked: Asked) -> bool {
     }
 }
 
-fn usage(fd: i32) {
-    io::write_all(
-        fd,
+// What cannot be written is lost, and the status stays 0.
+fn usage(to: &impl Print) {
+    let _ = to.write_all(
         b"\
         index FOLDER...  (as: index runs/*)\n\
         For each run folder, with its files run.jnl and run.pln, one row:\n\
@@ -63,20 +80,20 @@ fn usage(fd: i32) {
     );
 }
 
-fn version() {
+fn version(rt: &HostRuntime) {
     let line = lines::version();
     let bytes = line.bytes;
     let len = line.len;
-    io::write_all(1, &bytes[..len]);
+    let _ = rt.write_all(&bytes[..len]);
 }
 
 // The row of each argument, up to the first that cannot be written.
-fn folders(count: usize) {
+fn folders(rt: &HostRuntime, count: usize) {
     let mut journal = [0u8; file_bytes::ROOM];
     let mut plan = [0u8; file_bytes::ROOM];
     let mut i = 1;
     while i < count {
-        if !folder(i, &mut journal, &mut plan) {
+        if !folder(rt, i, &mut journal, &mut plan) {
             return;
         }
         i += 1;
@@ -84,18 +101,18 @@ fn folders(count: usize) {
 }
 
 // The row of one argument; false where it cannot be written.
-fn folder(i: usize, journal: &mut [u8], plan: &mut [u8]) -> bool {
-    let mut name = io::buffer();
-    let n = file_bytes::argument(i, &mut name);
-    let j = file_bytes::contents(&name[..n], b"run.jnl", journal);
-    let p = file_bytes::contents(&name[..n], b"run.pln", plan);
-    print_row(&name[..n], &journal[..j], &plan[..p])
+fn folder(rt: &HostRuntime, i: usize, journal: &mut [u8], plan: &mut [u8]) -> bool {
+    let mut name = [0u8; file_bytes::PATH_MAX];
+    let n = file_bytes::argument(rt, i, &mut name);
+    let j = file_bytes::contents(rt, &name[..n], b"run.jnl", journal);
+    let p = file_bytes::contents(rt, &name[..n], b"run.pln", plan);
+    print_row(rt, &name[..n], &journal[..j], &plan[..p])
 }
 
-fn print_row(name: &[u8], journal: &[u8], plan: &[u8]) -> bool
+fn print_row(rt: &HostRuntime, name: &[u8], journal: &[u8], plan: &[u8]) -> bool
     requires { length name.now ≤ 4096 }
 {
     let mut room = [0u8; 4608];
     let len = rows::row(name, journal, plan, &mut room);
-    io::write_all(1, &room[..len])
+    rt.write_all(&room[..len]).is_ok()
 }

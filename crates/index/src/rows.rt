@@ -3,7 +3,7 @@
 // Owns: the fields and what ends them, the name as it is shown. Must not own: the verdict, the words, where the row goes.
 // Defends: no byte of a folder's name ends its field or the row.
 ghost use Rattle.std.specs.Prelude.{◌≡◌, ◌++◌, ◌+◌, ◌≤◌, length, take};
-ghost use Rattle.io.specs.Counts.{IsPrefixLen};
+ghost use Rattle.file_bytes.specs.Counts.{IsPrefixLen};
 ghost use Rattle.lines.specs.Words.{resume_of, words_of};
 ghost use Rattle.index.specs.Row.{cleaned, printed, answer_fields, row_of};
 ghost use Rattle.index.specs.Private.{Fielded};
@@ -62,6 +62,7 @@ fn resume_field(room: &mut [u8], at: usize, answer: Answer) -> usize
 }
 
 // The verdict's line without its line feed.
+#[tactic(auto, using(lines::proofs::Laws::held_len, lines::proofs::Laws::line_some))]
 fn verdict_field(room: &mut [u8], at: usize, answer: Answer) -> usize
     requires { at + 129 ≤ length room.old }
     ensures fielded { Fielded room.old at (printed answer) 9 room.new result }
@@ -92,6 +93,7 @@ fn answer_fields(room: &mut [u8], at: usize, answer: Answer, telling: Telling) -
 }
 
 // The row of a folder with these two files, at the start of room.
+#[tactic(auto, using(crate::proofs::Fields::row_of_lem), unfolding(crate::specs::Row::row_of))]
 pub(crate) fn row(name: &[u8], journal: &[u8], plan: &[u8], room: &mut [u8]) -> usize
     requires name_len_bound { length name.now ≤ 4096 }
     requires room_len { length room.old ≡ 4608 }

@@ -12,10 +12,9 @@ use Rattle.files.proofs.Checks.{both}
 use Rattle.files.specs.declared.Entry.{Entry}
 use Rattle.files.specs.Kinds.{entry_in, kind_in}
 use Rattle.histories.specs.declared.Answer.{Answer}
-use Rattle.histories.specs.declared.Answer.TheVariants as Answer
 use Rattle.lines.specs.declared.Line.{Line}
 use Rattle.lines.specs.declared.words.Telling.{Telling}
-use Rattle.lines.specs.Line.{line_of, holding, Holds}
+use Rattle.lines.specs.Line.{line_of, Holds}
 use Rattle.endings.specs.declared.Ending.{Ending}
 use Rattle.endings.specs.Endings.{ascii, ending_number}
 use Rattle.lines.specs.Words.{Row, table, other_words, is_of, words_in, filled, detail_of, words_of}

@@ -4,3 +4,4 @@ mod Right
 mod Table
 pub mod Laws
 pub mod ShownStep
+pub mod What

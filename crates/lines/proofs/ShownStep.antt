@@ -12,11 +12,9 @@ use lib.Seq.{length-take-le}
 use Rattle.ids.specs.declared.GateId.{GateId}
 use Rattle.clocks.specs.declared.ClockCapability.{ClockCapability}
 use Rattle.records.specs.declared.RecordRef.{RecordRef}
-use Rattle.records.specs.declared.RecordRef.TheVariants as RecordRef
 use Rattle.files.specs.declared.Format.TheVariants as Format
 use Rattle.files.specs.declared.Entry.{Entry}
 use Rattle.files.specs.declared.PlanStep.{PlanStep}
-use Rattle.files.specs.declared.PlanStep.TheVariants as PlanStep
 use Rattle.files.specs.Contents.{records_of, steps_of}
 use Rattle.files.specs.Encoding.{record_entry, step_entry}
 use Rattle.files.specs.Kinds.{entry_in}
@@ -86,7 +84,7 @@ shown_step journal plan whole {capability} {steps} {p} {k} soon divergence calls
 pub shown_gate : (journal plan : List ℕ) → Whole Format.Plan plan → {capability : ClockCapability} (k : ℕ) {version : ℕ} {g : GateId}
     {records : List RecordRef} → AtGate capability (steps_of plan) k g version records → (count calls failed : ℕ) →
     (telling_of journal plan (Answer.Ok Ending.Due k count calls failed)).number ≡ g.0
-shown_gate journal plan whole k {version} {g} (P.at_gate {later = later} starts b is) count calls failed =
+shown_gate journal plan whole k {version} {g} (P.at_gate {later = later} begun b is) count calls failed =
     let steps = steps_of plan in
     let split : steps ≡ take k steps ++ (PlanStep.Gate g version ∷ later) =
     sym (take-append-drop k steps) ∙ ap (λ (l : List PlanStep). take k steps ++ l) is in

@@ -1,13 +1,11 @@
 -- Laws of the table of words in bytes: what stands at a row's place, how the next row is reached, and that every text has room.
-use Prim.Native.Nat.{ℕ, suc, ◌+◌, ◌-◌, ◌/◌, ◌%◌, ◌≤◌, ◌<◌}
+use Prim.Native.Nat.{ℕ, ◌+◌, ◌-◌, ◌/◌, ◌%◌, ◌≤◌, ◌<◌}
 use mathlib.Core.Path.{◌≡◌, refl, sym, ap, ◌∙◌}
 use mathlib.Core.Bool.{Bool, true, false, cond, not, ◌&&◌, ◌||◌}
 use mathlib.Core.List.{List, [], ◌∷◌, ◌++◌}
-use mathlib.Core.Logic.{by_cases}
-use native.Mathlib.Decide.{ℕ_discrete}
 use native.Mathlib.Numerals.{add-one}
 use native.Mathlib.Omega.{arith}
-use borrow.Author.Tests.{lt-ltb, le-ltb, eq-eqb, ne_eqb, ltb-true, leb-true, eqb-true, eqb-false, not-true}
+use borrow.Author.Tests.{lt-ltb, le-ltb, eq-eqb, ne_eqb, ltb-true, leb-true, eqb-true, not-true}
 use lib.Dec.{eqb, ltb, leb}
 use lib.ListN.{length, take, drop, get_or, length-append, length-drop, drop_of_length-le}
 use lib.Seq.{drop-cons, get_or-drop, drop-drop, take_all}
@@ -47,10 +45,10 @@ of_line_lem [] rest h = refl
 of_line_lem (byte ∷ bytes) rest h =
     let parts = both (not (eqb byte 10)) (unbroken bytes) h in rw (not-true (eqb byte 10) parts.0, of_line_lem bytes rest parts.1)
 
-after_line : (bytes rest : List ℕ) → unbroken bytes ≡ true → after_line (bytes ++ (10 ∷ rest)) ≡ rest
-after_line [] rest h = refl
-after_line (byte ∷ bytes) rest h =
-    let parts = both (not (eqb byte 10)) (unbroken bytes) h in rw (not-true (eqb byte 10) parts.0) (after_line bytes rest parts.1)
+after_line_lem : (bytes rest : List ℕ) → unbroken bytes ≡ true → after_line (bytes ++ (10 ∷ rest)) ≡ rest
+after_line_lem [] rest h = refl
+after_line_lem (byte ∷ bytes) rest h =
+    let parts = both (not (eqb byte 10)) (unbroken bytes) h in rw (not-true (eqb byte 10) parts.0) (after_line_lem bytes rest parts.1)
 
 pub of_whole : (bytes : List ℕ) → unbroken bytes ≡ true → of_line bytes ≡ bytes
 of_whole [] h = refl
@@ -121,6 +119,10 @@ ending_room (r ∷ rows) detail h =
     by_row true true x y = x
     by_row true false x y = y
     by_row false d x y = y
+
+-- the text of a gate with its number leaves room for the version
+pub gate_fits : (n : ℕ) → n < 18446744073709551616 → length (filled n (ascii "gate #")) ≤ 25
+gate_fits n h = omega (arith, filled_room n (ascii "gate #") h)
 
 pub ending_fits : (n detail : ℕ) → n < 18446744073709551616 → length (filled n (ascii (words_in table 0 detail))) ≤ 92
 ending_fits n detail h =
@@ -208,7 +210,7 @@ keyed_row text at number detail r rows e h =
 -- after a row comes the next one
 after_row : (r : Row) (rows : List Row) → plain r ≡ true → after_line (coded (r ∷ rows)) ≡ coded rows
 after_row r rows h =
-    rw (digit (r.number / 10), digit (r.number % 10), digit r.detail) (after_line (ascii r.words) (coded rows) (parts_of r h).2)
+    rw (digit (r.number / 10), digit (r.number % 10), digit r.detail) (after_line_lem (ascii r.words) (coded rows) (parts_of r h).2)
 
 -- a place before the end has a row
 pub room_for_row : (text : List ℕ) (at number detail : ℕ) → Left text at number detail → at < length text → at + 6 ≤ length text

@@ -3,3 +3,4 @@ pub mod Rows
 pub mod Telling
 pub mod Words
 pub mod Writing
+pub mod Columns

@@ -1,7 +1,6 @@
 -- The verdict's line in bytes: 01, "`verdict` .. prints one line".
 use Rattle.std.specs.Prelude.{ℕ, zero, suc, ◌+◌, ◌-◌, ◌/◌, ◌%◌, ◌≤◌, ◌≡◌, cond, List, [], ◌∷◌, ◌++◌, ltb, length, replicate, take}
 use Rattle.histories.specs.declared.Answer.{Answer}
-use Rattle.histories.specs.declared.Answer.TheVariants as Answer
 use Rattle.endings.specs.Endings.{ascii, ending_word}
 use Rattle.lines.specs.declared.Line.{Line}
 

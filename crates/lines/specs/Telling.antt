@@ -1,12 +1,10 @@
 -- What `words_of` asks for beside the answer: the kind of the one entry that tells apart the words, and the number that stands for `#`.
 use Rattle.std.specs.Prelude.{ℕ, ◌+◌, ◌-◌, cond, ◌&&◌, List, eqb}
 use Rattle.endings.specs.declared.Ending.{Ending}
-use Rattle.endings.specs.declared.Ending.TheVariants as Ending
 use Rattle.endings.specs.Endings.{ending_number}
 use Rattle.files.specs.declared.Entry.{Entry}
 use Rattle.files.specs.Kinds.{no_entry, entry_in, kind_in}
 use Rattle.histories.specs.declared.Answer.{Answer}
-use Rattle.histories.specs.declared.Answer.TheVariants as Answer
 use Rattle.lines.specs.declared.words.Telling.{Telling}
 
 -- the record before a place; before the first there is none

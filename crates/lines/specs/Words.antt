@@ -3,9 +3,7 @@ use Rattle.std.specs.Prelude.{ℕ, Bool, cond, not, ◌&&◌, ◌||◌, List, []
 use Prim.Native.String.{String}
 use Rattle.records.specs.Records.{among, opener_kinds}
 use Rattle.histories.specs.declared.Answer.{Answer}
-use Rattle.histories.specs.declared.Answer.TheVariants as Answer
 use Rattle.endings.specs.declared.Ending.{Ending}
-use Rattle.endings.specs.declared.Ending.TheVariants as Ending
 use Rattle.endings.specs.Endings.{ascii, ending_number, still_to_run}
 use Rattle.lines.specs.Line.{decimal}
 use Rattle.lines.specs.declared.words.Telling.{Telling}

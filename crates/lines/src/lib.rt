@@ -4,6 +4,7 @@
 // Defends: any answer at all has exactly its line, and nothing stands after it.
 #![tactic(auto)]
 
+pub mod columns;
 pub mod telling;
 pub mod words;
 
@@ -77,7 +78,7 @@ fn numbers(line: Line, a: u64, b: u64, c: u64) -> Line
     field(field(field(line, a, b' '), b, b' '), c, b'\n')
 }
 
-fn word(line: Line, ending: Ending) -> Line
+pub(crate) fn word(line: Line, ending: Ending) -> Line
     requires { line.len + 9 ≤ 128 }
     ensures value { result ≡ written line (ending_word ending) }
     ensures len_bound { result.len ≤ line.len + 9 }

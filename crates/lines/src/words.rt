@@ -79,7 +79,7 @@ fn show(line: Line, byte: u8, n: u64) -> Line
 }
 
 // A text up to the end of its line, with the number in its place.
-fn fill(text: &[u8], n: u64) -> Line
+pub(crate) fn fill(text: &[u8], n: u64) -> Line
     requires { length (filled n (of_line text.now)) ≤ 128 }
     ensures { Holds result (filled n (of_line text.now)) }
 {
@@ -168,7 +168,7 @@ fn said(number: u64, detail: u64, n: u64) -> Line
 
 // What tells apart the words of one ending: the kind of the step at the stop, or of the record that ended the run.
 fn ending_detail(ending: Ending, kind: u8) -> u64
-    ensures { result ≡ endingDetail ending kind }
+    ensures { result ≡ ending_detail ending kind }
 {
     match ending {
         Ending::Unstarted => 0,
@@ -180,7 +180,7 @@ fn ending_detail(ending: Ending, kind: u8) -> u64
 }
 
 fn detail_of(number: u64, place: u64, divergence: u64, kind: u8) -> u64
-    ensures { result ≡ detailOf number place divergence kind }
+    ensures { result ≡ detail_of number place divergence kind }
 {
     if number == 24 {
         if place == 0 {
@@ -199,7 +199,7 @@ fn detail_of(number: u64, place: u64, divergence: u64, kind: u8) -> u64
 
 // What an ending means, and how many steps failed: where one did, and of a run that is done in any case.
 fn ending_words(ending: Ending, n: u64, kind: u8, failed: u64) -> Line
-    ensures { Holds result (endingWords ending n kind failed) }
+    ensures { Holds result (ending_words ending n kind failed) }
 {
     let line = said(0, ending_detail(ending, kind), n);
     if (ending.number() == 2) | (failed != 0) {
@@ -209,8 +209,9 @@ fn ending_words(ending: Ending, n: u64, kind: u8, failed: u64) -> Line
 }
 
 // What an answer means, with what `telling` gives for it.
+#[tactic(auto, unfolding(crate::specs::Words::words_of))]
 pub fn words_of(answer: Answer, telling: Telling) -> Line
-    ensures { Holds result (wordsOf answer telling) }
+    ensures { Holds result (words_of answer telling) }
 {
     match answer {
         Answer::Ok {
@@ -234,8 +235,9 @@ pub fn words_of(answer: Answer, telling: Telling) -> Line
 }
 
 // Whether the run may be resumed, and at which step.
+#[tactic(auto, unfolding(crate::specs::Words::resume_of))]
 pub fn resume_of(answer: Answer) -> Line
-    ensures { Holds result (resumeOf answer) }
+    ensures { Holds result (resume_of answer) }
 {
     match answer {
         Answer::Ok {
@@ -255,7 +257,7 @@ pub fn resume_of(answer: Answer) -> Line
 }
 
 fn resumed(ending: Ending, stop: u64) -> Line
-    ensures { Holds result (filled stop (ascii (cond (stillToRun ending) "yes, step #" "no"))) }
+    ensures { Holds result (filled stop (ascii (cond (still_to_run ending) "yes, step #" "no"))) }
 {
     if ending.still_to_run() {
         fill(b"yes, step #", stop)

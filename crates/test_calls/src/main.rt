@@ -3,7 +3,7 @@
 // The file stdout holds what the Rust answered to the same calls (docs/COMPARISON.md says how both were made).
 #![tactic(auto)]
 
-ghost use Rattle.std.specs.Prelude.{◌<◌, ◌≤◌, length};
+ghost use Rattle.std.specs.Prelude.{◌<◌, ◌≤◌, length, IfOk};
 
 use core_exports::machines::{MachineAnswered, MachineNumbers, PendingNumbers, RequestNumbers};
 use core_exports::{CursorNumbers, IdsNumbers, RecordNumbers, SpecNumbers, machines};
@@ -11,6 +11,8 @@ use cursor::ReplayCursor;
 use errors::Told;
 use ids::RunId;
 use records::{Body, RecordRef, RecordRefOption};
+use std::io;
+use std::io::Read;
 
 // The allocator, the cursor and the machine that the calls work on.
 #[derive(Clone, Copy)]
@@ -34,13 +36,28 @@ struct Line {
     next: usize,
 }
 
-fn main() {
-    let mut text = io::large_buffer();
-    let n = io::read_full(0, &mut text);
-    replay(&text[..n]);
+fn main(rt: HostRuntime) -> io::Result<()> {
+    let mut text = [0u8; 65536];
+    let n = read_full(&mut rt.stdin(), &mut text)?;
+    replay(&rt, &text[..n])
 }
 
-fn replay(text: &[u8]) {
+// Reads until the room is full or the input ends, and returns how many bytes were read.
+fn read_full(input: &mut impl Read, room: &mut [u8]) -> io::Result<usize>
+    ensures { IfOk result (λ n. n ≤ length room.new) }
+{
+    let mut done: usize = 0;
+    while done < room.len() {
+        let n = input.read(&mut room[done..])?;
+        if n == 0 {
+            break;
+        }
+        done += n;
+    }
+    Ok(done)
+}
+
+fn replay(rt: &impl Print, text: &[u8]) -> io::Result<()> {
     let mut now = Current {
         ids: core_exports::hiskurdo_ids_for_run(0),
         cursor: new_cursors(0),
@@ -50,10 +67,11 @@ fn replay(text: &[u8]) {
     while at < text.len() {
         let line = read_line(text, at);
         let values = line.values;
-        now = call(now, values);
-        io::write_all(1, b"\n");
+        now = call(rt, now, values)?;
+        rt.write_all(b"\n")?;
         at = line.next;
     }
+    Ok(())
 }
 
 // The decimal numbers of the line that begins at `at`, up to twelve.
@@ -101,55 +119,60 @@ fn with_digit(n: u64, b: u8) -> u64 {
 }
 
 // One call, by its number, with what it writes.
-fn call(now: Current, values: [u64; 12]) -> Current {
+fn call(rt: &impl Print, now: Current, values: [u64; 12]) -> io::Result<Current> {
     let op = values[0];
     if op < 3 {
-        successor_call(op, values[1]);
-        return now;
+        successor_call(rt, op, values[1])?;
+        return Ok(now);
     }
     if op < 6 {
-        return ids_call(now, op, values);
+        return ids_call(rt, now, op, values);
     }
     if op < 12 {
-        timer_call(op, values);
-        return now;
+        timer_call(rt, op, values)?;
+        return Ok(now);
     }
     if op < 14 {
-        return cursor_call(now, op, values);
+        return cursor_call(rt, now, op, values);
     }
     if op == 20 {
-        divergence_call(values);
-        return now;
+        divergence_call(rt, values)?;
+        return Ok(now);
     }
-    machine_call(now, op, values)
+    machine_call(rt, now, op, values)
 }
 
-fn successor_call(op: u64, n: u64) {
+fn successor_call(rt: &impl Print, op: u64, n: u64) -> io::Result<()> {
     if op == 1 {
-        say(core_exports::hiskurdo_run_successor(n));
+        say(rt, core_exports::hiskurdo_run_successor(n))
     } else {
-        say(core_exports::hiskurdo_seq_successor(low32(n)));
+        say(rt, core_exports::hiskurdo_seq_successor(low32(n)))
     }
 }
 
-fn ids_call(now: Current, op: u64, values: [u64; 12]) -> Current {
+fn ids_call(rt: &impl Print, now: Current, op: u64, values: [u64; 12]) -> io::Result<Current> {
     let cursor = now.cursor;
     let machine = now.machine;
     let old = now.ids;
-    let ids = next_ids(old, op, values);
-    value(core_exports::hiskurdo_ids_run(ids));
-    io::write_all(1, b" ");
-    say(core_exports::hiskurdo_ids_peek(ids));
-    Current {
+    let ids = next_ids(rt, old, op, values)?;
+    value(rt, core_exports::hiskurdo_ids_run(ids))?;
+    rt.write_all(b" ")?;
+    say(rt, core_exports::hiskurdo_ids_peek(ids))?;
+    Ok(Current {
         ids,
         cursor,
         machine,
-    }
+    })
 }
 
-fn next_ids(old: IdsNumbers, op: u64, values: [u64; 12]) -> IdsNumbers {
+fn next_ids(
+    rt: &impl Print,
+    old: IdsNumbers,
+    op: u64,
+    values: [u64; 12],
+) -> io::Result<IdsNumbers> {
     if op == 3 {
-        return core_exports::hiskurdo_ids_for_run(values[1]);
+        return Ok(core_exports::hiskurdo_ids_for_run(values[1]));
     }
     if op == 4 {
         let resumed = core_exports::hiskurdo_ids_resume(
@@ -157,51 +180,63 @@ fn next_ids(old: IdsNumbers, op: u64, values: [u64; 12]) -> IdsNumbers {
             low8(values[2]),
             low32(values[3]),
         );
-        return resumed.ids;
+        return Ok(resumed.ids);
     }
     let allocated = core_exports::hiskurdo_ids_allocate(old);
-    say(allocated.answer);
-    io::write_all(1, b" ");
-    allocated.ids
+    say(rt, allocated.answer)?;
+    rt.write_all(b" ")?;
+    Ok(allocated.ids)
 }
 
-fn timer_call(op: u64, values: [u64; 12]) {
+fn timer_call(rt: &impl Print, op: u64, values: [u64; 12]) -> io::Result<()> {
     let spec = SpecNumbers {
         deadline: values[2],
         clock: low8(values[1]),
     };
     match op {
         6 => {
-            value(core_exports::hiskurdo_spec_clock_kind(spec));
-            io::write_all(1, b" ");
-            value(core_exports::hiskurdo_spec_deadline(spec));
+            value(rt, core_exports::hiskurdo_spec_clock_kind(spec))?;
+            rt.write_all(b" ")?;
+            value(rt, core_exports::hiskurdo_spec_deadline(spec))
         }
-        7 => value(core_exports::hiskurdo_spec_rearmed_at(spec, values[3], values[4])),
-        8 => say(core_exports::hiskurdo_spec_recorded(low8(values[1]), values[2])),
-        9 => admits_call(values),
-        10 => say(core_exports::hiskurdo_timer_arm(spec, low8(values[3]), values[4])),
-        _ => say(core_exports::hiskurdo_timer_evaluate(spec, values[3], values[4])),
+        7 => value(
+            rt,
+            core_exports::hiskurdo_spec_rearmed_at(spec, values[3], values[4]),
+        ),
+        8 => say(
+            rt,
+            core_exports::hiskurdo_spec_recorded(low8(values[1]), values[2]),
+        ),
+        9 => admits_call(rt, values),
+        10 => say(
+            rt,
+            core_exports::hiskurdo_timer_arm(spec, low8(values[3]), values[4]),
+        ),
+        _ => say(
+            rt,
+            core_exports::hiskurdo_timer_evaluate(spec, values[3], values[4]),
+        ),
     }
 }
 
-fn admits_call(values: [u64; 12]) {
+fn admits_call(rt: &impl Print, values: [u64; 12]) -> io::Result<()> {
     let spec = SpecNumbers {
         deadline: values[3],
         clock: low8(values[2]),
     };
-    say(core_exports::hiskurdo_admits(low8(values[1]), spec));
+    say(rt, core_exports::hiskurdo_admits(low8(values[1]), spec))
 }
 
-fn cursor_call(now: Current, op: u64, values: [u64; 12]) -> Current {
+fn cursor_call(rt: &impl Print, now: Current, op: u64, values: [u64; 12]) -> io::Result<Current> {
     let ids = now.ids;
     let machine = now.machine;
     let old = now.cursor;
-    let cursor = next_cursors(old, op, values);
-    Current {
+    let cursor = next_cursors(rt, old, op, values)?;
+    Ok(Current {
         ids,
         cursor,
         machine,
-    }
+    })
 }
 
 fn new_cursors(run: u64) -> Cursors {
@@ -211,58 +246,60 @@ fn new_cursors(run: u64) -> Cursors {
     }
 }
 
-fn next_cursors(old: Cursors, op: u64, values: [u64; 12]) -> Cursors {
+fn next_cursors(rt: &impl Print, old: Cursors, op: u64, values: [u64; 12]) -> io::Result<Cursors> {
     if op == 12 {
         let fresh = new_cursors(values[1]);
-        readers(fresh.by_value);
-        return fresh;
+        readers(rt, fresh.by_value)?;
+        return Ok(fresh);
     }
     let record = record_at(values, 1);
-    let by_value = advance(old.by_value, record);
-    io::write_all(1, b"\n");
+    let by_value = advance(rt, old.by_value, record)?;
+    rt.write_all(b"\n")?;
     let kept = old.lent;
-    Cursors {
-        by_value,
-        lent: advance_lent(kept, record),
-    }
+    let lent = advance_lent(rt, kept, record)?;
+    Ok(Cursors { by_value, lent })
 }
 
-fn advance(old: CursorNumbers, record: RecordNumbers) -> CursorNumbers {
+fn advance(
+    rt: &impl Print,
+    old: CursorNumbers,
+    record: RecordNumbers,
+) -> io::Result<CursorNumbers> {
     let advanced = core_exports::hiskurdo_cursor_advance(old, record);
-    say(advanced.answer);
-    io::write_all(1, b" ");
-    value(core_exports::hiskurdo_record_kind(record));
-    io::write_all(1, b" ");
+    say(rt, advanced.answer)?;
+    rt.write_all(b" ")?;
+    value(rt, core_exports::hiskurdo_record_kind(record))?;
+    rt.write_all(b" ")?;
     let next = advanced.cursor;
-    readers(next);
-    next
+    readers(rt, next)?;
+    Ok(next)
 }
 
 // The same record by `cursor_lent::advance`; the list has none that names nothing.
-fn advance_lent(old: ReplayCursor, n: RecordNumbers) -> ReplayCursor {
+fn advance_lent(rt: &impl Print, old: ReplayCursor, n: RecordNumbers) -> io::Result<ReplayCursor> {
     let body = Body {
         start: n.start as usize,
         len: n.m as usize,
     };
     match RecordRef::of(n.kind, n.clock, n.a, n.s, n.d, n.m, body) {
-        RecordRefOption::Some(record) => lend(old, record),
+        RecordRefOption::Some(record) => lend(rt, old, record),
         RecordRefOption::None => {
-            io::write_all(1, b"this record names nothing");
-            old
+            rt.write_all(b"this record names nothing")?;
+            Ok(old)
         }
     }
 }
 
-fn lend(old: ReplayCursor, record: RecordRef) -> ReplayCursor {
+fn lend(rt: &impl Print, old: ReplayCursor, record: RecordRef) -> io::Result<ReplayCursor> {
     let advanced = cursor_lent::advanced(old, record);
     let answer = advanced.answer;
     let next = advanced.cursor;
-    say(answer_numbers::step_result_told(answer));
-    io::write_all(1, b" ");
-    number(record.kind().0 as u64);
-    io::write_all(1, b" ");
-    lent_readers(next);
-    next
+    say(rt, answer_numbers::step_result_told(answer))?;
+    rt.write_all(b" ")?;
+    number(rt, record.kind().0 as u64)?;
+    rt.write_all(b" ")?;
+    lent_readers(rt, next)?;
+    Ok(next)
 }
 
 // The record whose seven numbers begin at `at`, at most at 5.
@@ -279,27 +316,32 @@ fn record_at(values: [u64; 12], at: usize) -> RecordNumbers {
     }
 }
 
-fn machine_call(now: Current, op: u64, values: [u64; 12]) -> Current {
+fn machine_call(rt: &impl Print, now: Current, op: u64, values: [u64; 12]) -> io::Result<Current> {
     let ids = now.ids;
     let cursor = now.cursor;
     let old = now.machine;
-    let machine = next_machine(old, op, values);
-    machine_readers(machine);
-    Current {
+    let machine = next_machine(rt, old, op, values)?;
+    machine_readers(rt, machine)?;
+    Ok(Current {
         ids,
         cursor,
         machine,
-    }
+    })
 }
 
-fn next_machine(old: MachineNumbers, op: u64, values: [u64; 12]) -> MachineNumbers {
+fn next_machine(
+    rt: &impl Print,
+    old: MachineNumbers,
+    op: u64,
+    values: [u64; 12],
+) -> io::Result<MachineNumbers> {
     if op == 14 {
-        return machines::hiskurdo_machine_new(values[1]);
+        return Ok(machines::hiskurdo_machine_new(values[1]));
     }
     let done = machine_answer(old, op, values);
-    say(done.answer);
-    io::write_all(1, b" ");
-    done.machine
+    say(rt, done.answer)?;
+    rt.write_all(b" ")?;
+    Ok(done.machine)
 }
 
 fn machine_answer(old: MachineNumbers, op: u64, values: [u64; 12]) -> MachineAnswered {
@@ -335,7 +377,7 @@ fn request(values: [u64; 12]) -> RequestNumbers {
     }
 }
 
-fn divergence_call(values: [u64; 12]) {
+fn divergence_call(rt: &impl Print, values: [u64; 12]) -> io::Result<()> {
     let recorded = PendingNumbers {
         run: values[4],
         seq: low32(values[5]),
@@ -345,92 +387,96 @@ fn divergence_call(values: [u64; 12]) {
     };
     let asked = request(values);
     number(
+        rt,
         machines::hiskurdo_divergence_from(asked, recorded, values[9], low32(values[10])) as u64,
-    );
+    )
 }
 
 // What every reader of the machine says.
-fn machine_readers(machine: MachineNumbers) {
-    value(machines::hiskurdo_machine_run(machine));
+fn machine_readers(rt: &impl Print, machine: MachineNumbers) -> io::Result<()> {
+    value(rt, machines::hiskurdo_machine_run(machine))?;
     let position = machines::hiskurdo_machine_position(machine);
-    io::write_all(1, b" ");
-    number(position.number);
-    io::write_all(1, b" ");
-    number(position.a);
-    io::write_all(1, b" ");
-    say(machines::hiskurdo_machine_pending(machine));
-    io::write_all(1, b" ");
-    say(machines::hiskurdo_machine_pending_timer(machine));
-    io::write_all(1, b" ");
-    value(machines::hiskurdo_machine_diverged(machine));
-    io::write_all(1, b" ");
-    value(machines::hiskurdo_machine_failed(machine));
-    unread(machine);
+    rt.write_all(b" ")?;
+    number(rt, position.number)?;
+    rt.write_all(b" ")?;
+    number(rt, position.a)?;
+    rt.write_all(b" ")?;
+    say(rt, machines::hiskurdo_machine_pending(machine))?;
+    rt.write_all(b" ")?;
+    say(rt, machines::hiskurdo_machine_pending_timer(machine))?;
+    rt.write_all(b" ")?;
+    value(rt, machines::hiskurdo_machine_diverged(machine))?;
+    rt.write_all(b" ")?;
+    value(rt, machines::hiskurdo_machine_failed(machine))?;
+    unread(rt, machine)
 }
 
 // What no reader of the machine says: the number that it offers, and its phase.
-fn unread(machine: MachineNumbers) {
+fn unread(rt: &impl Print, machine: MachineNumbers) -> io::Result<()> {
     let ids = machine.cursor.ids;
-    io::write_all(1, b" ");
-    number(ids.offers as u64);
-    io::write_all(1, b" ");
-    number(ids.next as u64);
-    io::write_all(1, b" ");
-    number(machine.phase as u64);
+    rt.write_all(b" ")?;
+    number(rt, ids.offers as u64)?;
+    rt.write_all(b" ")?;
+    number(rt, ids.next as u64)?;
+    rt.write_all(b" ")?;
+    number(rt, machine.phase as u64)
 }
 
 // What every reader of the cursor says.
-fn readers(cursor: CursorNumbers) {
-    value(core_exports::hiskurdo_cursor_run(cursor));
+fn readers(rt: &impl Print, cursor: CursorNumbers) -> io::Result<()> {
+    value(rt, core_exports::hiskurdo_cursor_run(cursor))?;
     let position = core_exports::hiskurdo_cursor_position(cursor);
-    io::write_all(1, b" ");
-    number(position.number);
-    io::write_all(1, b" ");
-    number(position.a);
-    io::write_all(1, b" ");
-    value(core_exports::hiskurdo_cursor_is_terminal(cursor));
-    io::write_all(1, b" ");
-    say(core_exports::hiskurdo_cursor_pending(cursor));
-    io::write_all(1, b" ");
-    say(core_exports::hiskurdo_cursor_pending_timer(cursor));
-    io::write_all(1, b" ");
-    say(core_exports::hiskurdo_cursor_next_seq(cursor));
-    io::write_all(1, b" ");
-    say(core_exports::hiskurdo_cursor_next_effect_id(cursor));
-    io::write_all(1, b" ");
-    value(core_exports::hiskurdo_cursor_failed(cursor));
+    rt.write_all(b" ")?;
+    number(rt, position.number)?;
+    rt.write_all(b" ")?;
+    number(rt, position.a)?;
+    rt.write_all(b" ")?;
+    value(rt, core_exports::hiskurdo_cursor_is_terminal(cursor))?;
+    rt.write_all(b" ")?;
+    say(rt, core_exports::hiskurdo_cursor_pending(cursor))?;
+    rt.write_all(b" ")?;
+    say(rt, core_exports::hiskurdo_cursor_pending_timer(cursor))?;
+    rt.write_all(b" ")?;
+    say(rt, core_exports::hiskurdo_cursor_next_seq(cursor))?;
+    rt.write_all(b" ")?;
+    say(rt, core_exports::hiskurdo_cursor_next_effect_id(cursor))?;
+    rt.write_all(b" ")?;
+    value(rt, core_exports::hiskurdo_cursor_failed(cursor))
 }
 
 // A value that is one number; a refusal is said whole.
-fn value(told: Told) {
+fn value(rt: &impl Print, told: Told) -> io::Result<()> {
     if told.number == 0 {
-        number(told.a);
+        number(rt, told.a)
     } else {
-        say(told);
+        say(rt, told)
     }
 }
 
 // The same of a cursor that was lent.
-fn lent_readers(cursor: ReplayCursor) {
-    number(cursor.run().0);
+fn lent_readers(rt: &impl Print, cursor: ReplayCursor) -> io::Result<()> {
+    number(rt, cursor.run().0)?;
     let position = cursor.position();
     let told = answer_numbers::position_told(position);
-    io::write_all(1, b" ");
-    number(told.number);
-    io::write_all(1, b" ");
-    number(told.a);
-    io::write_all(1, b" ");
-    number(flag(position.is_terminal()));
-    io::write_all(1, b" ");
-    say(answer_numbers::pending_effect_told(cursor.pending()));
-    io::write_all(1, b" ");
-    say(answer_numbers::pending_timer_told(cursor.pending_timer()));
-    io::write_all(1, b" ");
-    say(cursor.next_seq().told());
-    io::write_all(1, b" ");
-    say(cursor.next_effect_id().told());
-    io::write_all(1, b" ");
-    number(cursor.failed());
+    rt.write_all(b" ")?;
+    number(rt, told.number)?;
+    rt.write_all(b" ")?;
+    number(rt, told.a)?;
+    rt.write_all(b" ")?;
+    number(rt, flag(position.is_terminal()))?;
+    rt.write_all(b" ")?;
+    say(rt, answer_numbers::pending_effect_told(cursor.pending()))?;
+    rt.write_all(b" ")?;
+    say(
+        rt,
+        answer_numbers::pending_timer_told(cursor.pending_timer()),
+    )?;
+    rt.write_all(b" ")?;
+    say(rt, cursor.next_seq().told())?;
+    rt.write_all(b" ")?;
+    say(rt, cursor.next_effect_id().told())?;
+    rt.write_all(b" ")?;
+    number(rt, cursor.failed())
 }
 
 fn flag(yes: bool) -> u64 {
@@ -440,22 +486,22 @@ fn flag(yes: bool) -> u64 {
     0
 }
 
-fn say(told: Told) {
-    number(told.number);
-    io::write_all(1, b" ");
-    number(told.a);
-    io::write_all(1, b" ");
-    number(told.b);
-    io::write_all(1, b" ");
-    number(told.c);
-    io::write_all(1, b" ");
-    number(told.d);
-    io::write_all(1, b" ");
-    number(told.e);
+fn say(rt: &impl Print, told: Told) -> io::Result<()> {
+    number(rt, told.number)?;
+    rt.write_all(b" ")?;
+    number(rt, told.a)?;
+    rt.write_all(b" ")?;
+    number(rt, told.b)?;
+    rt.write_all(b" ")?;
+    number(rt, told.c)?;
+    rt.write_all(b" ")?;
+    number(rt, told.d)?;
+    rt.write_all(b" ")?;
+    number(rt, told.e)
 }
 
-fn number(n: u64) {
-    io::print_decimal(1, n);
+fn number(rt: &impl Print, n: u64) -> io::Result<()> {
+    rt.print(n)
 }
 
 fn low8(n: u64) -> u8 {

@@ -2,27 +2,45 @@
 // says what reading it says. The file stdout holds what a plain Rust reader says of the same files (docs/COMPARISON.md).
 #![tactic(auto)]
 
-ghost use Rattle.std.specs.Prelude.{◌<◌, ◌≤◌, length};
+ghost use Rattle.std.specs.Prelude.{◌<◌, ◌≤◌, length, IfOk};
 
 use hiskurdo::EntryNumbers;
+use std::io;
+use std::io::Read;
 
-fn main() {
-    let mut text = io::large_buffer();
-    let n = io::read_full(0, &mut text);
+fn main(rt: HostRuntime) -> io::Result<()> {
+    let mut text = [0u8; 65536];
+    let n = read_full(&mut rt.stdin(), &mut text)?;
     let mut file = [0u8; 32800];
-    run(&text[..n], &mut file);
+    run(&rt, &text[..n], &mut file)
 }
 
-fn run(text: &[u8], file: &mut [u8]) {
+// Reads until the room is full or the input ends, and returns how many bytes were read.
+fn read_full(input: &mut impl Read, room: &mut [u8]) -> io::Result<usize>
+    ensures { IfOk result (λ n. n ≤ length room.new) }
+{
+    let mut done: usize = 0;
+    while done < room.len() {
+        let n = input.read(&mut room[done..])?;
+        if n == 0 {
+            break;
+        }
+        done += n;
+    }
+    Ok(done)
+}
+
+fn run(rt: &impl Print, text: &[u8], file: &mut [u8]) -> io::Result<()> {
     let mut at: usize = 0;
     while at < text.len() {
         let line = test_text::read_line(text, at, file);
-        answer(line.letter, file, line.len);
+        answer(rt, line.letter, file, line.len)?;
         at = line.next;
     }
+    Ok(())
 }
 
-fn answer(letter: u8, room: &[u8], len: usize)
+fn answer(rt: &impl Print, letter: u8, room: &[u8], len: usize) -> io::Result<()>
     requires { len ≤ length room.now }
 {
     let file = &room[0..len];
@@ -31,38 +49,39 @@ fn answer(letter: u8, room: &[u8], len: usize)
     } else {
         hiskurdo::hiskurdo_read_plan(file)
     };
-    io::print_decimal(1, read.number);
+    rt.print(read.number)?;
     if read.number != 0 {
-        print(read.place);
+        print(rt, read.place)?;
     } else {
-        print(read.head);
-        print(read.count);
-        contents(letter, file, (read.count % 65536) as u16);
+        print(rt, read.head)?;
+        print(rt, read.count)?;
+        contents(rt, letter, file, (read.count % 65536) as u16)?;
     }
-    io::write_all(1, b"\n");
+    rt.write_all(b"\n")
 }
 
-fn print(n: u64) {
-    io::write_all(1, b" ");
-    io::print_decimal(1, n);
+fn print(rt: &impl Print, n: u64) -> io::Result<()> {
+    rt.write_all(b" ")?;
+    rt.print(n)
 }
 
 // Where the last body ends, and the first four entries.
-fn contents(letter: u8, file: &[u8], count: u16) {
+fn contents(rt: &impl Print, letter: u8, file: &[u8], count: u16) -> io::Result<()> {
     let start = 16 + 24 * (count as u64);
-    print(end_of(letter, file, count, start));
+    print(rt, end_of(letter, file, count, start))?;
     let mut entry: u64 = 0;
     let mut body = start;
     let mut i: u16 = 0;
     while i < 4 {
         if i < count {
             let e = next(letter, file, entry, body);
-            print_entry(e);
+            print_entry(rt, e)?;
             entry = e.next_entry;
             body = e.next_body;
         }
         i += 1;
     }
+    Ok(())
 }
 
 fn end_of(letter: u8, file: &[u8], count: u16, start: u64) -> u64 {
@@ -86,13 +105,13 @@ fn next(letter: u8, file: &[u8], entry: u64, body: u64) -> EntryNumbers {
     }
 }
 
-fn print_entry(e: EntryNumbers) {
-    print(e.kind);
-    print(e.clock);
-    print(e.a);
-    print(e.s);
-    print(e.d);
-    print(e.m);
-    print(e.start);
-    print(e.len);
+fn print_entry(rt: &impl Print, e: EntryNumbers) -> io::Result<()> {
+    print(rt, e.kind)?;
+    print(rt, e.clock)?;
+    print(rt, e.a)?;
+    print(rt, e.s)?;
+    print(rt, e.d)?;
+    print(rt, e.m)?;
+    print(rt, e.start)?;
+    print(rt, e.len)
 }

@@ -9,10 +9,8 @@ use mathlib.Core.List.{List, [], ◌∷◌}
 use types.Run.{OneOf, miss}
 use denote.Enum.Declared.{tag_of}
 use Rattle.ids.specs.declared.SeqOption.{SeqOption}
-use Rattle.ids.specs.declared.SeqOption.TheVariants as SeqOption
 use Rattle.records.specs.declared.RecordRef.{RecordRef}
 use Rattle.cursor.specs.declared.State.{State}
-use Rattle.cursor.specs.declared.State.TheVariants as State
 use Rattle.cursor.specs.declared.StepResult.{StepResult}
 use Rattle.cursor.specs.Advance as Cursor
 use Rattle.cursor.specs.contracts.State as the

@@ -3,10 +3,8 @@ use Rattle.std.specs.Prelude.{ℕ, Bool, false, ◌&&◌, eqb}
 use Rattle.ids.specs.declared.EffectIdAllocator.{EffectIdAllocator}
 use Rattle.cursor.specs.declared.State.TheVariants as State
 use Rattle.cursor.specs.declared.Step.{Step}
-use Rattle.cursor.specs.declared.Step.TheVariants as Step
 use Rattle.cursor.specs.Readers.{cursor_at}
 use Rattle.cursor.specs.declared.StepResult.{StepResult}
-use Rattle.cursor.specs.declared.StepResult.TheVariants as StepResult
 use Rattle.machine.specs.declared.Phase.{Phase}
 use Rattle.machine.specs.declared.ReplayMachine.{ReplayMachine}
 use Rattle.test_numbering.specs.declared.Counted.{Counted}

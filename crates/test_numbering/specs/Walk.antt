@@ -2,12 +2,9 @@
 use Rattle.std.specs.Prelude.{ℕ, ◌+◌, ◌≡◌}
 use Rattle.ids.specs.declared.RunId.{RunId}
 use Rattle.ids.specs.declared.SeqOption.{SeqOption}
-use Rattle.ids.specs.declared.SeqOption.TheVariants as SeqOption
 use Rattle.records.specs.declared.RecordRef.{RecordRef}
-use Rattle.records.specs.declared.RecordRef.TheVariants as RecordRef
 use Rattle.cursor.specs.declared.State.TheVariants as State
 use Rattle.cursor.specs.declared.StepResult.{StepResult}
-use Rattle.cursor.specs.declared.StepResult.TheVariants as StepResult
 use Rattle.cursor.specs.Advance.{accepted_step}
 use Rattle.cursor.specs.Readers.{cursor_at}
 use Rattle.machine.specs.declared.Phase.TheVariants as Phase

@@ -5,18 +5,29 @@ use errors::Told;
 use ids::{ActivityKind, EffectIdAllocator};
 use machine::{EffectRequest, Next, Phase, ReplayMachine, TimerRequest};
 use records::RecordRef;
+use std::io;
 
 // Calls, each with the machine that it leaves.
 
-pub(crate) fn advance(label: &[u8], machine: ReplayMachine, record: RecordRef) -> ReplayMachine {
+pub(crate) fn advance(
+    rt: &impl Print,
+    label: &[u8],
+    machine: ReplayMachine,
+    record: RecordRef,
+) -> io::Result<ReplayMachine> {
     let done = machine.advance(record);
     let answer = done.answer;
     let after = done.machine;
-    answered(label, answer_numbers::step_result_told(answer), after);
-    after
+    answered(rt, label, answer_numbers::step_result_told(answer), after)?;
+    Ok(after)
 }
 
-pub(crate) fn intent(label: &[u8], machine: ReplayMachine, next: Next) -> ReplayMachine {
+pub(crate) fn intent(
+    rt: &impl Print,
+    label: &[u8],
+    machine: ReplayMachine,
+    next: Next,
+) -> io::Result<ReplayMachine> {
     let request = EffectRequest {
         kind: ActivityKind(1),
         input_len: 0,
@@ -26,32 +37,40 @@ pub(crate) fn intent(label: &[u8], machine: ReplayMachine, next: Next) -> Replay
     let answer = done.answer;
     let after = done.machine;
     answered(
+        rt,
         label,
         answer_numbers::machines::intent_result_told(answer),
         after,
-    );
-    after
+    )?;
+    Ok(after)
 }
 
-pub(crate) fn outcome(label: &[u8], machine: ReplayMachine, next: Next) -> ReplayMachine {
+pub(crate) fn outcome(
+    rt: &impl Print,
+    label: &[u8],
+    machine: ReplayMachine,
+    next: Next,
+) -> io::Result<ReplayMachine> {
     let done = machine.outcome(next);
     let answer = done.answer;
     let after = done.machine;
     answered(
+        rt,
         label,
         answer_numbers::machines::resolve_result_told(answer),
         after,
-    );
-    after
+    )?;
+    Ok(after)
 }
 
 // The timer that is asked for is persistent.
 pub(crate) fn timer_intent(
+    rt: &impl Print,
     label: &[u8],
     machine: ReplayMachine,
     capability: ClockCapability,
     next: Next,
-) -> ReplayMachine {
+) -> io::Result<ReplayMachine> {
     let request = TimerRequest {
         spec: TimerSpec::AtPersistentTime { instant: 5 },
         capability,
@@ -60,94 +79,108 @@ pub(crate) fn timer_intent(
     let answer = done.answer;
     let after = done.machine;
     answered(
+        rt,
         label,
         answer_numbers::machines::timer_intent_result_told(answer),
         after,
-    );
-    after
+    )?;
+    Ok(after)
 }
 
-pub(crate) fn timer_outcome(label: &[u8], machine: ReplayMachine, next: Next) -> ReplayMachine {
+pub(crate) fn timer_outcome(
+    rt: &impl Print,
+    label: &[u8],
+    machine: ReplayMachine,
+    next: Next,
+) -> io::Result<ReplayMachine> {
     let done = machine.timer_outcome(next);
     let answer = done.answer;
     let after = done.machine;
     answered(
+        rt,
         label,
         answer_numbers::machines::timer_resolve_result_told(answer),
         after,
-    );
-    after
+    )?;
+    Ok(after)
 }
 
 pub(crate) fn cursor_advance(
+    rt: &impl Print,
     label: &[u8],
     cursor: ReplayCursor,
     record: RecordRef,
-) -> ReplayCursor {
+) -> io::Result<ReplayCursor> {
     let advanced = cursor.advance(record);
     let answer = advanced.answer;
     let next = advanced.cursor;
-    answer_is(label, answer_numbers::step_result_told(answer));
-    io::write_all(1, b", ");
-    cursor_is(next);
-    told(b", next_effect_id", next.next_effect_id().told());
-    io::write_all(1, b"\n");
-    next
+    answer_is(rt, label, answer_numbers::step_result_told(answer))?;
+    rt.write_all(b", ")?;
+    cursor_is(rt, next)?;
+    told(rt, b", next_effect_id", next.next_effect_id().told())?;
+    rt.write_all(b"\n")?;
+    Ok(next)
 }
 
-pub(crate) fn allocate(label: &[u8], ids: EffectIdAllocator) -> EffectIdAllocator {
+pub(crate) fn allocate(
+    rt: &impl Print,
+    label: &[u8],
+    ids: EffectIdAllocator,
+) -> io::Result<EffectIdAllocator> {
     let allocated = ids.allocate();
     let answer = allocated.answer;
     let next = allocated.ids;
-    answer_is(label, answer.told());
-    told(b", peek", next.peek().told());
-    io::write_all(1, b"\n");
-    next
+    answer_is(rt, label, answer.told())?;
+    told(rt, b", peek", next.peek().told())?;
+    rt.write_all(b"\n")?;
+    Ok(next)
 }
 
 // The parts of a line.
 
-pub(crate) fn count(label: &[u8], n: u64) {
-    say(label, n);
-    io::write_all(1, b"\n");
+pub(crate) fn count(rt: &impl Print, label: &[u8], n: u64) -> io::Result<()> {
+    say(rt, label, n)?;
+    rt.write_all(b"\n")
 }
 
-pub(crate) fn cursor_line(label: &[u8], cursor: ReplayCursor) {
-    io::write_all(1, label);
-    io::write_all(1, b": ");
-    cursor_is(cursor);
-    told(b", next_effect_id", cursor.next_effect_id().told());
-    io::write_all(1, b"\n");
+pub(crate) fn cursor_line(rt: &impl Print, label: &[u8], cursor: ReplayCursor) -> io::Result<()> {
+    rt.write_all(label)?;
+    rt.write_all(b": ")?;
+    cursor_is(rt, cursor)?;
+    told(rt, b", next_effect_id", cursor.next_effect_id().told())?;
+    rt.write_all(b"\n")
 }
 
-fn answered(label: &[u8], answer: Told, machine: ReplayMachine) {
-    answer_is(label, answer);
-    io::write_all(1, b", ");
-    cursor_is(machine.cursor);
+fn answered(rt: &impl Print, label: &[u8], answer: Told, machine: ReplayMachine) -> io::Result<()> {
+    answer_is(rt, label, answer)?;
+    rt.write_all(b", ")?;
+    cursor_is(rt, machine.cursor)?;
     let phase = machine.phase;
-    say(b", phase ", phase_number(phase));
-    say(b", diverged ", machine.diverged().number() as u64);
-    io::write_all(1, b"\n");
+    say(rt, b", phase ", phase_number(phase))?;
+    say(rt, b", diverged ", machine.diverged().number() as u64)?;
+    rt.write_all(b"\n")
 }
 
-fn answer_is(label: &[u8], answer: Told) {
-    io::write_all(1, label);
-    told(b": answer", answer);
+fn answer_is(rt: &impl Print, label: &[u8], answer: Told) -> io::Result<()> {
+    rt.write_all(label)?;
+    told(rt, b": answer", answer)
 }
 
-fn cursor_is(cursor: ReplayCursor) {
+fn cursor_is(rt: &impl Print, cursor: ReplayCursor) -> io::Result<()> {
     let position = answer_numbers::position_told(cursor.position());
-    say(b"position ", position.number);
-    say(b" ", position.a);
+    say(rt, b"position ", position.number)?;
+    say(rt, b" ", position.a)?;
     told(
+        rt,
         b", pending",
         answer_numbers::pending_effect_told(cursor.pending()),
-    );
+    )?;
     told(
+        rt,
         b", pending_timer",
         answer_numbers::pending_timer_told(cursor.pending_timer()),
-    );
-    told(b", next_seq", cursor.next_seq().told());
+    )?;
+    told(rt, b", next_seq", cursor.next_seq().told())
 }
 
 fn phase_number(phase: Phase) -> u64 {
@@ -160,17 +193,17 @@ fn phase_number(phase: Phase) -> u64 {
 }
 
 // An answer's number and its five values.
-fn told(label: &[u8], told: Told) {
-    io::write_all(1, label);
-    say(b" ", told.number);
-    say(b" ", told.a);
-    say(b" ", told.b);
-    say(b" ", told.c);
-    say(b" ", told.d);
-    say(b" ", told.e);
+fn told(rt: &impl Print, label: &[u8], told: Told) -> io::Result<()> {
+    rt.write_all(label)?;
+    say(rt, b" ", told.number)?;
+    say(rt, b" ", told.a)?;
+    say(rt, b" ", told.b)?;
+    say(rt, b" ", told.c)?;
+    say(rt, b" ", told.d)?;
+    say(rt, b" ", told.e)
 }
 
-fn say(label: &[u8], n: u64) {
-    io::write_all(1, label);
-    io::print_decimal(1, n);
+fn say(rt: &impl Print, label: &[u8], n: u64) -> io::Result<()> {
+    rt.write_all(label)?;
+    rt.print(n)
 }

@@ -8,8 +8,9 @@ ghost use Rattle.test_numbering.specs.Walk.{walk_rule, Marked};
 ghost use Rattle.test_numbering.specs.Turns.{to_last_rule, replaying_with, marks_in, marks_of};
 
 use cursor::{ReplayCursor, State, Step, StepResult};
-use ids::{EffectIdAllocator, RunId};
+use ids::{EffectIdAllocator, EffectSeq, GateId, RunId};
 use machine::{Phase, ReplayMachine};
+use std::io;
 
 mod history;
 mod last;
@@ -31,21 +32,21 @@ struct Walked {
     markers: u64,
 }
 
-fn main() {
+fn main(rt: HostRuntime) -> io::Result<()> {
     let walked = walk();
     let before = walked.before;
     let machine = walked.machine;
-    lines::count(b"markers accepted ", walked.markers);
+    lines::count(&rt, b"markers accepted ", walked.markers)?;
     let one_left = before.cursor;
-    last::cursors(one_left);
-    last::allocators(one_left.ids);
-    last::effects(before);
-    last::timers(before);
+    last::cursors(&rt, one_left)?;
+    last::allocators(&rt, one_left.ids)?;
+    last::effects(&rt, before)?;
+    last::timers(&rt, before)?;
     let none_left = machine.cursor;
-    spent::cursors(none_left);
-    spent::machines(machine);
-    spent::effects(machine);
-    spent::timers(machine);
+    spent::cursors(&rt, none_left)?;
+    spent::machines(&rt, machine)?;
+    spent::effects(&rt, machine)?;
+    spent::timers(&rt, machine)
 }
 
 // The marker of the last number, after all the others.
@@ -77,7 +78,7 @@ fn walk_to_last() -> Counted
     let mut machine = started.machine;
     let mut number: u32 = 0;
     while number < 4294967295 {
-        let advanced = machine.advance(history::marker(number));
+        let advanced = machine.advance_marker(EffectSeq(number), GateId(1), 1);
         let answer = advanced.answer;
         if !marks(answer, number) {
             return Counted {

@@ -3,78 +3,102 @@
 // twin over the real ReplayMachine says of the same pairs (docs/COMPARISON.md).
 #![tactic(auto)]
 
-ghost use Rattle.std.specs.Prelude.{◌≤◌, length};
+ghost use Rattle.std.specs.Prelude.{◌≤◌, length, IfOk};
 
 use histories::Handed;
 use resume::handing;
+use std::io;
+use std::io::Read;
 
-fn main() {
-    let mut text = io::large_buffer();
-    let n = io::read_full(0, &mut text);
+fn main(rt: HostRuntime) -> io::Result<()> {
+    let mut text = [0u8; 65536];
+    let n = read_full(&mut rt.stdin(), &mut text)?;
     let mut journal = [0u8; 32800];
     let mut plan = [0u8; 32800];
-    run(&text[..n], &mut journal, &mut plan);
+    run(&rt, &text[..n], &mut journal, &mut plan)
 }
 
-fn run(text: &[u8], journal: &mut [u8], plan: &mut [u8]) {
+// Reads until the room is full or the input ends, and returns how many bytes were read.
+fn read_full(input: &mut impl Read, room: &mut [u8]) -> io::Result<usize>
+    ensures { IfOk result (λ n. n ≤ length room.new) }
+{
+    let mut done: usize = 0;
+    while done < room.len() {
+        let n = input.read(&mut room[done..])?;
+        if n == 0 {
+            break;
+        }
+        done += n;
+    }
+    Ok(done)
+}
+
+fn run(rt: &impl Print, text: &[u8], journal: &mut [u8], plan: &mut [u8]) -> io::Result<()> {
     let mut at: usize = 0;
     while at < text.len() {
         let first = test_text::read_line(text, at, journal);
         let second = test_text::read_line(text, first.next, plan);
-        answer(journal, first.len, plan, second.len);
+        answer(rt, journal, first.len, plan, second.len)?;
         at = second.next;
     }
+    Ok(())
 }
 
-fn answer<'a>(journal_room: &'a [u8], journal_len: usize, plan_room: &'a [u8], plan_len: usize)
+fn answer<'a>(
+    rt: &impl Print,
+    journal_room: &'a [u8],
+    journal_len: usize,
+    plan_room: &'a [u8],
+    plan_len: usize,
+) -> io::Result<()>
     requires { (journal_len ≤ length journal_room.now) × (plan_len ≤ length plan_room.now) }
 {
-    pair(&journal_room[0..journal_len], &plan_room[0..plan_len]);
+    pair(rt, &journal_room[0..journal_len], &plan_room[0..plan_len])
 }
 
-fn pair<'a>(journal: &'a [u8], plan: &'a [u8]) {
+fn pair<'a>(rt: &impl Print, journal: &'a [u8], plan: &'a [u8]) -> io::Result<()> {
     let line = lines::line_of(resume::verdict(journal, plan));
     let len = line.len;
     let bytes = line.bytes;
-    io::write_all(1, &bytes[..len]);
-    boundary(journal, plan, 0);
-    boundary(journal, plan, 1);
-    boundary(journal, plan, 2);
-    boundary(journal, plan, 3);
+    rt.write_all(&bytes[..len])?;
+    boundary(rt, journal, plan, 0)?;
+    boundary(rt, journal, plan, 1)?;
+    boundary(rt, journal, plan, 2)?;
+    boundary(rt, journal, plan, 3)
 }
 
 // What is handed over at a boundary, with its length and the sum of its bytes.
-fn boundary<'a>(journal: &'a [u8], plan: &'a [u8], i: u64) {
-    io::write_all(1, b"handover ");
-    io::print_decimal(1, i);
+fn boundary<'a>(rt: &impl Print, journal: &'a [u8], plan: &'a [u8], i: u64) -> io::Result<()> {
+    rt.write_all(b"handover ")?;
+    rt.print(i)?;
     let part = handing::handover(journal, plan, i);
     match handing::handover_case(journal, plan, i) {
         Handed::Completed(_) => {
-            io::write_all(1, b" completed ");
-            measures(part);
+            rt.write_all(b" completed ")?;
+            measures(rt, part)?;
         }
         Handed::Failed(_) => {
-            io::write_all(1, b" failed ");
-            measures(part);
+            rt.write_all(b" failed ")?;
+            measures(rt, part)?;
         }
         Handed::Input(_) => {
-            io::write_all(1, b" input ");
-            measures(part);
+            rt.write_all(b" input ")?;
+            measures(rt, part)?;
         }
         Handed::Refused(number) => {
-            io::write_all(1, b" refused ");
-            io::print_decimal(1, number);
-            io::write_all(1, b" ");
-            io::print_decimal(1, part.len() as u64);
+            rt.write_all(b" refused ")?;
+            rt.print(number)?;
+            rt.write_all(b" ")?;
+            rt.print(part.len() as u64)?;
         }
     }
-    io::write_all(1, b"\n");
+    rt.write_all(b"\n")
 }
 
-fn measures(part: &[u8]) {
-    io::print_decimal(1, part.len() as u64);
-    io::write_all(1, b" ");
-    io::print_decimal(1, sum_of(part));
+fn measures(rt: &impl Print, part: &[u8]) -> io::Result<()> {
+    rt.print(part.len() as u64)?;
+    rt.write_all(b" ")?;
+    rt.print(sum_of(part))
 }
 
 // The sum of the bytes, in 32 bits.

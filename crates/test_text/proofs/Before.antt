@@ -1,5 +1,5 @@
 -- Laws of what stands before a byte, and of the items of a line.
-use Prim.Native.Nat.{ℕ, zero, suc, ◌+◌, ◌-◌, ◌≤◌, ◌<◌}
+use Prim.Native.Nat.{ℕ, suc, ◌+◌, ◌-◌, ◌≤◌, ◌<◌}
 use mathlib.Core.Path.{◌≡◌, refl, ap, sym, ◌∙◌}
 use mathlib.Core.Logic.{by_cases}
 use mathlib.Core.List.{List, [], ◌∷◌}
@@ -93,3 +93,6 @@ module _ (line : List ℕ) (at end : ℕ) (more : at < length line) (here : befo
 pub items_first : (line : List ℕ) → length (before 32 line) ≡ 1 → (items (drop 1 line) ≡ items line) × (before 32 (drop 1 line) ≡ [])
 items_first line h =
     (ap (λ (k : ℕ). items (drop k line)) (sym h) ∙ items_after line, ap (λ (k : ℕ). before 32 (drop k line)) (sym h) ∙ before_after 32 line)
+
+-- where the items begin
+pub ruleset first_laws = (before_length, items_first)

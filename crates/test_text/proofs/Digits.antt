@@ -1,15 +1,15 @@
 -- Laws of digits: of one, of pairs of them, of a decimal number.
 use Prim.Native.Nat.{ℕ, zero, suc, ◌+◌, ◌*◌, ◌-◌, ◌/◌, ◌≤◌, ◌<◌}
 use mathlib.Core.Path.{◌≡◌, refl, ap, sym, ◌∙◌}
-use mathlib.Core.Bool.{Bool, true, false, ◌&&◌}
+use mathlib.Core.Bool.{true, false}
 use mathlib.Core.Logic.{by_cases}
 use mathlib.Core.List.{List, [], ◌∷◌, ◌++◌}
 use native.Mathlib.Decide.{ℕ_discrete, dec_lt}
 use native.Mathlib.Nat.{suc-mul, zero-mul}
 use native.Mathlib.Omega.{arith}
-use borrow.Author.Tests.{eq-eqb, ne_eqb, lt-ltb, le-ltb, le-leb, lt-leb, ltb-true}
-use lib.Dec.{eqb, ltb}
-use lib.ListN.{length, drop, get_or, drop_of_length-le, length-append, length-drop}
+use borrow.Author.Tests.{eq-eqb, ne_eqb, lt-ltb, le-ltb, le-leb, lt-leb}
+use lib.Dec.{eqb}
+use lib.ListN.{length, drop, get_or, drop_of_length-le, length-append}
 use Rattle.test_text.specs.Lines.{hex_digit, hex_byte, paired, hex_bytes, decimal_from, copies}
 use Rattle.test_text.proofs.Before.{drop_at}
 
@@ -108,3 +108,10 @@ module _ (n digit : ℕ) (s : List ℕ) (at : ℕ) (h : at < length s) (e : digi
 
 pub decimal_ends : (n : ℕ) (s : List ℕ) (at : ℕ) → length s ≤ at → decimal_from n (drop at s) ≡ n
 decimal_ends n s at h = rw (drop_of_length-le s h)
+
+-- the laws of a digit, of pairs of digits and of a decimal number
+pub ruleset digit_laws = (digit_below, digit_decimal, digit_between, digit_letter, digit_above)
+
+pub ruleset pair_laws = (paired_again, paired_byte, bytes_again, bytes_last)
+
+pub ruleset decimal_laws = (decimal_again, decimal_other, decimal_over, decimal_ends)

@@ -1,5 +1,5 @@
 -- Laws of bytes that are put into a room, some after others.
-use Prim.Native.Nat.{ℕ, zero, suc, ◌+◌, ◌≤◌, ◌<◌}
+use Prim.Native.Nat.{ℕ, ◌+◌, ◌≤◌, ◌<◌}
 use mathlib.Core.Path.{◌≡◌, refl, ap, sym, ◌∙◌}
 use mathlib.Core.List.{List, [], ◌∷◌, ◌++◌, append_assoc}
 use native.Mathlib.Nat.{add-zero, zero-add}
@@ -76,3 +76,6 @@ module _ (room₀ : List ℕ) (from : ℕ) (whole room : List ℕ) (at : ℕ) (r
 
   pub left_none : rest ≡ [] → (at ≡ from + length whole) × (room ≡ put room₀ from whole)
   left_none e = (omega (arith, h.place, ap length e), sym (put_none room at) ∙ ap (put room at) (sym e) ∙ h.bytes)
+
+-- the laws of what is left
+pub ruleset left_laws = (left_all, left_byte, left_none)

@@ -8,8 +8,7 @@ use native.Mathlib.Nat.{add-zero}
 use native.Mathlib.Omega.{arith}
 use borrow.Author.Tests.{lt-ltb, le-ltb}
 use lib.ListN.{length, take, drop, get_or, drop_of_length-le, length-append, length-drop}
-use Rattle.test_text.specs.declared.Described.{Described}
-use Rattle.test_text.specs.Lines.{before, items, items_bytes, file_of, line_at, line_rule, over}
+use Rattle.test_text.specs.Lines.{items, items_bytes, file_of, line_at, line_rule, over}
 use Rattle.test_text.specs.Steps.{put}
 use Rattle.test_text.proofs.Before.{before_take}
 use Rattle.test_text.proofs.Put.{put_first}
@@ -63,3 +62,6 @@ module _ (text : List ℕ) (at room : ℕ) where
       pub line_last : length text ≤ end → record { letter = letter; next = end; len = len } ≡ line_rule text at room
       unfolding line_rule
       line_last h = rw (first, file, line_here, ← e, le-ltb end (length text) h)
+
+-- what a line says, for `read_line`
+pub ruleset line_laws = (line_past, none_past, line_here, line_fed, line_last)

@@ -1,5 +1,5 @@
 -- What private functions of this crate ask of one another: no part of what a reader must believe, only a step to the rule.
-use Rattle.std.specs.Prelude.{ℕ, ◌+◌, cond, ◌&&◌, List, [], ◌∷◌, ◌++◌, leb, length, take, drop}
+use Rattle.std.specs.Prelude.{ℕ, ◌+◌, cond, List, ◌++◌, leb, length, take, drop}
 use Rattle.test_text.specs.Lines.{item_bytes}
 
 -- how many bytes an item has, 0 where there is not so much room

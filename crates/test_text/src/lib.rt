@@ -18,6 +18,7 @@ pub struct Described {
 }
 
 // Reads the file that the line at this place of the text describes into room.
+#[tactic(auto, using(crate::proofs::Read::line_laws))]
 pub fn read_line(text: &[u8], at: usize, room: &mut [u8]) -> Described
     ensures value { result ≡ line_rule text.now at (length room.old) }
     ensures room_after { room.new ≡ over (file_of (line_at text.now at) (length room.old)) room.old }
@@ -50,6 +51,7 @@ pub fn read_line(text: &[u8], at: usize, room: &mut [u8]) -> Described
 }
 
 // Reads the file that a line describes into room.
+#[tactic(auto, using(crate::proofs::Read::file_written, crate::proofs::Read::file_empty, crate::proofs::Read::file_room, crate::proofs::Sizes::file_there))]
 fn read_file(line: &[u8], room: &mut [u8]) -> usize
     ensures value { result ≡ length (file_of line.now (length room.old)) }
     ensures room_after { room.new ≡ over (file_of line.now (length room.old)) room.old }
@@ -73,6 +75,7 @@ fn first(s: &[u8]) -> u8
 }
 
 // Where this byte stands next, or the end.
+#[tactic(auto, using(crate::proofs::Before::found_here, crate::proofs::Before::found_later, crate::proofs::Before::found_nowhere))]
 fn find(s: &[u8], from: usize, b: u8) -> usize
     requires { from ≤ length s.now }
     ensures value { result ≡ from + length (before b (drop from s.now)) }
@@ -89,6 +92,7 @@ fn find(s: &[u8], from: usize, b: u8) -> usize
 }
 
 // How many bytes the file of a line has.
+#[tactic(auto, using(crate::proofs::Before::space_next, crate::proofs::Sizes::no_file, crate::proofs::Sizes::turn_stops, crate::proofs::Sizes::turn_goes_on))]
 fn file_len(line: &[u8], room: usize) -> usize
     ensures { result ≡ length (file_of line.now room) }
 {
@@ -111,6 +115,7 @@ fn file_len(line: &[u8], room: usize) -> usize
 }
 
 // How many bytes an item has, 0 where there is not so much room.
+#[tactic(auto, using(crate::proofs::Sizes::item_never, crate::proofs::Sizes::no_length, crate::proofs::Sizes::fits_room))]
 fn item_len(item: &[u8], room: usize) -> usize
     ensures { result ≡ item_length item.now room }
 {
@@ -130,6 +135,7 @@ fn item_len(item: &[u8], room: usize) -> usize
 }
 
 // How often the bytes of an item are repeated.
+#[tactic(auto, using(crate::proofs::Sizes::times_said, crate::proofs::Sizes::times_once))]
 fn times_of(item: &[u8], star: usize) -> usize
     requires { star ≡ length (digits_of item.now) }
     ensures { result ≡ times_of item.now }
@@ -142,6 +148,7 @@ fn times_of(item: &[u8], star: usize) -> usize
 }
 
 // A decimal number, 0 where it is none.
+#[tactic(auto, using(crate::proofs::Digits::decimal_laws))]
 fn decimal(s: &[u8]) -> usize
     ensures { result ≡ decimal_from 0 s.now }
 {
@@ -162,6 +169,7 @@ fn decimal(s: &[u8]) -> usize
 }
 
 // Whether these are pairs of hex digits.
+#[tactic(auto, using(crate::proofs::Digits::paired_again, crate::proofs::Digits::paired_never, crate::proofs::Digits::paired_last))]
 fn paired(s: &[u8]) -> bool
     ensures { result ≡ paired s.now }
 {
@@ -176,6 +184,7 @@ fn paired(s: &[u8]) -> bool
 }
 
 // The byte of two hex digits, 256 where one of them is none.
+#[tactic(auto, using(crate::proofs::Digits::byte_both, crate::proofs::Digits::byte_high, crate::proofs::Digits::byte_low))]
 fn hex_byte(high: u8, low: u8) -> u16
     ensures { result ≡ hex_byte high low }
 {
@@ -191,6 +200,7 @@ fn hex_byte(high: u8, low: u8) -> u16
 }
 
 // The value of a hex digit, 16 where it is none.
+#[tactic(auto, using(crate::proofs::Digits::digit_laws))]
 fn hex_digit(b: u8) -> u8
     ensures value { result ≡ hex_digit b }
     ensures upper_bound { result ≤ 16 }
@@ -211,6 +221,7 @@ fn hex_digit(b: u8) -> u8
 }
 
 // Writes the items of a line, which fit.
+#[tactic(auto, using(crate::proofs::Before::first_laws, crate::proofs::Sizes::turn_right, crate::proofs::Put::left_laws))]
 fn write_items(line: &[u8], room: &mut [u8])
     requires line_len { length (before 32 line.now) ≡ 1 }
     requires line_value { right (items line.now) ≡ true }
@@ -228,6 +239,7 @@ fn write_items(line: &[u8], room: &mut [u8])
 }
 
 // Writes an item, which fits.
+#[tactic(auto, using(crate::proofs::Sizes::digits_first, crate::proofs::Sizes::item_copies, crate::proofs::Put::left_laws))]
 fn write_item(item: &[u8], room: &mut [u8], from: usize) -> usize
     requires item_value { paired (digits_of item.now) ≡ true }
     requires item_in_bounds { from + length (item_bytes item.now) ≤ length room.old }
@@ -245,6 +257,7 @@ fn write_item(item: &[u8], room: &mut [u8], from: usize) -> usize
 }
 
 // Writes the bytes of pairs of hex digits, which fit.
+#[tactic(auto, using(crate::proofs::Digits::pair_laws, crate::proofs::Put::left_laws))]
 fn write_digits(digits: &[u8], room: &mut [u8], from: usize) -> usize
     requires digits_value { paired digits.now ≡ true }
     requires digits_in_bounds { from + length (hex_bytes digits.now) ≤ length room.old }

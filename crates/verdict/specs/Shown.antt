@@ -3,7 +3,6 @@
 -- recorded input: 02, "Length or CRC"; with the end of its run: 02, "Completed too soon"; and a plan of one gate: 02, "Gates in the
 -- plan".
 use Rattle.std.specs.Prelude.{ℕ, List, [], ◌∷◌, ◌++◌, replicate}
-use Prim.Native.String.{String}
 use Rattle.lines.specs.Line.{line_of}
 use Rattle.endings.specs.Endings.{ascii}
 use Rattle.resume.specs.Verdict.{verdict_rule}

@@ -4,36 +4,43 @@
 // No contract can say what is read and printed: that is tested. The line that is printed for what was read is proved.
 #![tactic(auto)]
 
-ghost use Rattle.io.specs.Counts.{IsPrefixLen};
+ghost use Rattle.file_bytes.specs.Counts.{IsPrefixLen};
 ghost use Rattle.lines.specs.Line.{line_of, Holds};
 ghost use Rattle.resume.specs.Verdict.{verdict_rule};
 
 use file_bytes::names::Asked;
 use lines::Line;
+use std::env::FillError;
+use std::rt::Env;
 
-fn main() {
-    let count = os::arg_count();
-    if count < 2 {
-        judge(b".");
+fn main(rt: HostRuntime) {
+    if !is_given(&rt, 1) {
+        judge(&rt, b".");
         return;
     }
-    if count > 2 {
-        usage(2);
+    if is_given(&rt, 2) {
+        usage(&rt.stderr());
         return;
     }
-    let mut name = io::buffer();
-    let n = file_bytes::argument(1, &mut name);
+    let mut name = [0u8; file_bytes::PATH_MAX];
+    let n = file_bytes::argument(&rt, 1, &mut name);
     match file_bytes::names::asked_for(&name[..n]) {
-        Asked::Folder => judge(&name[..n]),
-        Asked::Help => usage(1),
-        Asked::Version => print(lines::version()),
-        Asked::Unknown => usage(2),
+        Asked::Folder => judge(&rt, &name[..n]),
+        Asked::Help => usage(&rt.stdout()),
+        Asked::Version => print(&rt, lines::version()),
+        Asked::Unknown => usage(&rt.stderr()),
     }
 }
 
-fn usage(fd: i32) {
-    io::write_all(
-        fd,
+// Whether there is such an argument; argument 0 is the program's own name.
+fn is_given(rt: &HostRuntime, i: usize) -> bool {
+    let mut first = [0u8; 1];
+    !matches!(rt.arg(i, &mut first), Err(FillError::NotPresent))
+}
+
+// What cannot be written is lost, and the status stays 0.
+fn usage(to: &impl Print) {
+    let _ = to.write_all(
         b"\
         verdict [FOLDER]  (as: verdict runs/a; without FOLDER: the current folder)\n\
         One line on the run in the folder's files run.jnl and run.pln:\n\
@@ -50,20 +57,20 @@ fn usage(fd: i32) {
 }
 
 // The verdict on a folder's files.
-fn judge(folder: &[u8]) {
+fn judge(rt: &HostRuntime, folder: &[u8]) {
     let mut journal = [0u8; file_bytes::ROOM];
     let mut plan = [0u8; file_bytes::ROOM];
-    let n = file_bytes::contents(folder, b"run.jnl", &mut journal);
-    let m = file_bytes::contents(folder, b"run.pln", &mut plan);
-    print(verdict_line(&journal[..n], &plan[..m]));
+    let n = file_bytes::contents(rt, folder, b"run.jnl", &mut journal);
+    let m = file_bytes::contents(rt, folder, b"run.pln", &mut plan);
+    print(rt, verdict_line(&journal[..n], &plan[..m]));
 }
 
-fn print(line: Line)
+fn print(rt: &HostRuntime, line: Line)
     requires { IsPrefixLen line.len line.bytes }
 {
     let bytes = line.bytes;
     let len = line.len;
-    io::write_all(1, &bytes[..len]);
+    let _ = rt.write_all(&bytes[..len]);
 }
 
 // The line for these two files' bytes.

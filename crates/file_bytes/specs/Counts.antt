@@ -1,0 +1,6 @@
+-- A count of bytes at the start of a list.
+use Rattle.std.specs.Prelude.{ℕ, ◌≤◌, ◌≡◌, List, length, take}
+
+-- `&xs[..n]` is in bounds and has n bytes. The second part follows from the first; callers that lend the n bytes use it.
+abbrev pub IsPrefixLen : ℕ → List ℕ → Type 0
+IsPrefixLen n xs = (n ≤ length xs) × (n ≡ length (take n xs))

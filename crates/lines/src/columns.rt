@@ -1,0 +1,219 @@
+// The columns of a row, each as a line: what a file says, or the verdict's answer; empty where a file does not say it.
+//
+// Owns: how a column is written. Must not own: what is read, what the answer is, how columns are put together.
+ghost use Rattle.std.specs.Prelude.{cond, [], ◌≤◌, length};
+ghost use Rattle.endings.specs.Endings.{ending_word, still_to_run};
+ghost use Rattle.files.specs.Kinds.{entry_in};
+ghost use Rattle.lines.specs.Line.{decimal, Holds};
+ghost use Rattle.lines.specs.Columns.{run_column, state_column, step_column, steps_column, timer_text, gate_text, entry_text, what_column};
+ghost use Rattle.lines.specs.Columns.{failed_column, board_word, board_column};
+
+use crate::{Line, words};
+use clocks::ClockCapability;
+use endings::Ending;
+use files::{Entry, JournalRead, PlanRead};
+use histories::Answer;
+
+// A text alone.
+fn text(bytes: &[u8]) -> Line
+    requires { length bytes.now ≤ 128 }
+    ensures { Holds result bytes.now }
+{
+    crate::write(crate::empty(), bytes)
+}
+
+// A number alone.
+fn bare(n: u64) -> Line
+    ensures { Holds result (decimal n) }
+{
+    crate::number(crate::empty(), n)
+}
+
+// The run number.
+#[tactic(auto, unfolding(crate::specs::Columns::run_column))]
+pub fn run_of(journal: &[u8]) -> Line
+    ensures { Holds result (run_column journal.now) }
+{
+    match files::reading::read_journal(journal) {
+        JournalRead::Refused { number, place } => text(b""),
+        JournalRead::Readable { run, count } => bare(run.0),
+    }
+}
+
+// The state, in one word.
+#[tactic(auto, unfolding(crate::specs::Columns::state_column))]
+pub fn state_of(answer: Answer) -> Line
+    ensures { Holds result (state_column answer) }
+{
+    match answer {
+        Answer::Ok {
+            ending,
+            stop,
+            records,
+            calls,
+            failed,
+        } => ended(ending),
+        Answer::No {
+            number,
+            place,
+            divergence,
+            calls,
+        } => text(b"refused"),
+    }
+}
+
+fn ended(ending: Ending) -> Line
+    ensures { Holds result (ending_word ending) }
+{
+    crate::word(crate::empty(), ending)
+}
+
+// The step that is to run.
+#[tactic(auto, unfolding(crate::specs::Columns::step_column))]
+pub fn step_of(answer: Answer) -> Line
+    ensures { Holds result (step_column answer) }
+{
+    match answer {
+        Answer::Ok {
+            ending,
+            stop,
+            records,
+            calls,
+            failed,
+        } => stop_at(ending, stop),
+        Answer::No {
+            number,
+            place,
+            divergence,
+            calls,
+        } => text(b""),
+    }
+}
+
+fn stop_at(ending: Ending, stop: u64) -> Line
+    ensures { Holds result (cond (still_to_run ending) (decimal stop) []) }
+{
+    if ending.still_to_run() {
+        bare(stop)
+    } else {
+        text(b"")
+    }
+}
+
+// The steps in the plan.
+#[tactic(auto, unfolding(crate::specs::Columns::steps_column))]
+pub fn steps_of(plan: &[u8]) -> Line
+    ensures { Holds result (steps_column plan.now) }
+{
+    match files::reading::read_plan(plan) {
+        PlanRead::Refused { number, place } => text(b""),
+        PlanRead::Readable { capability, count } => bare(count as u64),
+    }
+}
+
+// What the step is that is to run.
+#[tactic(auto, unfolding(crate::specs::Columns::what_column))]
+pub fn what_of(plan: &[u8], answer: Answer) -> Line
+    ensures { Holds result (what_column plan.now answer) }
+{
+    match answer {
+        Answer::Ok {
+            ending,
+            stop,
+            records,
+            calls,
+            failed,
+        } => what_at(plan, ending, stop),
+        Answer::No {
+            number,
+            place,
+            divergence,
+            calls,
+        } => text(b""),
+    }
+}
+
+fn what_at(plan: &[u8], ending: Ending, stop: u64) -> Line
+    ensures { Holds result (cond (still_to_run ending) (entry_text (entry_in plan.now stop)) []) }
+{
+    if ending.still_to_run() {
+        what_is(files::kinds::entry_of(plan, stop))
+    } else {
+        text(b"")
+    }
+}
+
+// What an entry of a plan is.
+fn what_is(e: Entry) -> Line
+    ensures { Holds result (entry_text e) }
+{
+    if e.kind == 2 {
+        return words::fill(b"effect #", e.a as u64);
+    }
+    if e.kind == 5 {
+        return timer(e);
+    }
+    if e.kind == 9 {
+        return gate(e);
+    }
+    text(b"")
+}
+
+fn timer(e: Entry) -> Line
+    ensures { Holds result (timer_text e) }
+{
+    if e.clock == 1 {
+        words::fill(b"timer boot #", e.d)
+    } else {
+        words::fill(b"timer persistent #", e.d)
+    }
+}
+
+fn gate(e: Entry) -> Line
+    ensures { Holds result (gate_text e) }
+{
+    let named = words::fill(b"gate #", e.a as u64);
+    crate::number(crate::write(named, b" version "), e.d)
+}
+
+// The failed steps.
+#[tactic(auto, unfolding(crate::specs::Columns::failed_column))]
+pub fn failed_of(answer: Answer) -> Line
+    ensures { Holds result (failed_column answer) }
+{
+    match answer {
+        Answer::Ok {
+            ending,
+            stop,
+            records,
+            calls,
+            failed,
+        } => bare(failed),
+        Answer::No {
+            number,
+            place,
+            divergence,
+            calls,
+        } => text(b""),
+    }
+}
+
+// The board.
+#[tactic(auto, unfolding(crate::specs::Columns::board_column))]
+pub fn board_of(plan: &[u8]) -> Line
+    ensures { Holds result (board_column plan.now) }
+{
+    match files::reading::read_plan(plan) {
+        PlanRead::Refused { number, place } => text(b""),
+        PlanRead::Readable { capability, count } => board(capability),
+    }
+}
+
+fn board(capability: ClockCapability) -> Line
+    ensures { Holds result (board_word capability) }
+{
+    match capability {
+        ClockCapability::BootOnly => text(b"boot-only"),
+        ClockCapability::Persistent => text(b"persistent"),
+    }
+}

@@ -1,0 +1,6 @@
+-- `run` ends: each line ends after it begins.
+use Rattle.std.proofs.Common.{◌-◌, length}
+use Rattle.test_files.proofs.run.Given as goal
+
+abbrev pub decreases-loop-at : goal.decreases-loop-at
+decreases-loop-at g l = length l.text - l.at
