@@ -24,7 +24,7 @@ def find(given, launcher):
     beside = os.path.join(launcher, "hiskurdo-index"), os.path.join(launcher, "..", "target", "bin", "index")
     found = next(filter(None, map(shutil.which, beside)), None) or shutil.which("hiskurdo-index")
     if not found:
-        raise Trouble("index is not found: build it (rt check index), or say where it is by --index or HISKURDO_INDEX")
+        raise Trouble("index is not found: build it (link/programs), or say where it is by --index or HISKURDO_INDEX")
     return found
 
 
