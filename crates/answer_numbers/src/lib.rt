@@ -19,9 +19,8 @@ ghost use Rattle.answer_numbers.specs.CursorTold.{
 };
 
 use cursor::{
-    PendingEffect, PendingEffectOption, PendingTimer, PendingTimerOption, Position, Step,
-    StepResult,
-};
+    PendingEffect, PendingTimer, Position, Step,
+    };
 use errors::Told;
 use ids::EffectId;
 use records::Body;
@@ -42,30 +41,30 @@ pub fn position_told(position: Position) -> Told
     }
 }
 
-pub fn pending_effect_told(pending: PendingEffectOption) -> Told
+pub fn pending_effect_told(pending: Option<PendingEffect>) -> Told
     ensures { result ≡ pending_effect_option_told pending }
 {
     match pending {
-        PendingEffectOption::Some(effect) => open_effect(1, effect),
-        PendingEffectOption::None => Told::new(0, 0, 0, 0, 0, 0),
+        Some(effect) => open_effect(1, effect),
+        None => Told::new(0, 0, 0, 0, 0, 0),
     }
 }
 
-pub fn pending_timer_told(pending: PendingTimerOption) -> Told
+pub fn pending_timer_told(pending: Option<PendingTimer>) -> Told
     ensures { result ≡ pending_timer_option_told pending }
 {
     match pending {
-        PendingTimerOption::Some(timer) => open_timer(1, timer),
-        PendingTimerOption::None => Told::new(0, 0, 0, 0, 0, 0),
+        Some(timer) => open_timer(1, timer),
+        None => Told::new(0, 0, 0, 0, 0, 0),
     }
 }
 
-pub fn step_result_told(res: StepResult) -> Told
+pub fn step_result_told(res: Result<Step, KernelError>) -> Told
     ensures { result ≡ step_result_told res }
 {
     match res {
-        StepResult::Ok(step) => step_told(step),
-        StepResult::Err(error) => error.told(),
+        Ok(step) => step_told(step),
+        Err(error) => error.told(),
     }
 }
 

@@ -16,16 +16,14 @@ ghost use Rattle.answer_numbers.specs.MachineTold.{
 use errors::Told;
 use ids::EffectId;
 use machine::{
-    Intent, IntentResult, Outcome, Resolve, ResolveResult, TimerIntent, TimerIntentResult,
-    TimerResolve, TimerResolveResult,
-};
+    Intent, Outcome, Resolve, TimerIntent, TimerResolve, };
 
-pub fn intent_result_told(res: IntentResult) -> Told
+pub fn intent_result_told(res: Result<Intent, KernelError>) -> Told
     ensures { result ≡ intent_result_told res }
 {
     match res {
-        IntentResult::Ok(intent) => intent_told(intent),
-        IntentResult::Err(error) => error.told(),
+        Ok(intent) => intent_told(intent),
+        Err(error) => error.told(),
     }
 }
 
@@ -39,12 +37,12 @@ fn intent_told(intent: Intent) -> Told
     }
 }
 
-pub fn resolve_result_told(res: ResolveResult) -> Told
+pub fn resolve_result_told(res: Result<Resolve, KernelError>) -> Told
     ensures { result ≡ resolve_result_told res }
 {
     match res {
-        ResolveResult::Ok(resolve) => resolve_told(resolve),
-        ResolveResult::Err(error) => error.told(),
+        Ok(resolve) => resolve_told(resolve),
+        Err(error) => error.told(),
     }
 }
 
@@ -57,12 +55,12 @@ fn resolve_told(resolve: Resolve) -> Told
     }
 }
 
-pub fn timer_intent_result_told(res: TimerIntentResult) -> Told
+pub fn timer_intent_result_told(res: Result<TimerIntent, KernelError>) -> Told
     ensures { result ≡ timer_intent_result_told res }
 {
     match res {
-        TimerIntentResult::Ok(intent) => timer_intent_told(intent),
-        TimerIntentResult::Err(error) => error.told(),
+        Ok(intent) => timer_intent_told(intent),
+        Err(error) => error.told(),
     }
 }
 
@@ -76,12 +74,12 @@ fn timer_intent_told(intent: TimerIntent) -> Told
     }
 }
 
-pub fn timer_resolve_result_told(res: TimerResolveResult) -> Told
+pub fn timer_resolve_result_told(res: Result<TimerResolve, KernelError>) -> Told
     ensures { result ≡ timer_resolve_result_told res }
 {
     match res {
-        TimerResolveResult::Ok(resolve) => timer_resolve_told(resolve),
-        TimerResolveResult::Err(error) => error.told(),
+        Ok(resolve) => timer_resolve_told(resolve),
+        Err(error) => error.told(),
     }
 }
 

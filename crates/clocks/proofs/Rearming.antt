@@ -52,6 +52,5 @@ rearmed_rule spec recorded now = record {
   any_order = λ later readings o. over_reordered spec o recorded;
 }
 
-pub rearmed_law : (spec : TimerSpec) (recorded now : ℕ) {r : ℕ} → r ≡ rearmed_at spec recorded now →
-    (r ≡ rearmed_at spec recorded now) × Rearmed spec recorded now r
-rearmed_law spec recorded now e = (e, subst (Rearmed spec recorded now) (sym e) (rearmed_rule spec recorded now))
+pub rearmed_law : (spec : TimerSpec) (recorded now : ℕ) {r : ℕ} → r ≡ rearmed_at spec recorded now → Rearmed spec recorded now r
+rearmed_law spec recorded now e = subst (Rearmed spec recorded now) (sym e) (rearmed_rule spec recorded now)

@@ -11,9 +11,9 @@ ghost use Rattle.std.specs.Prelude.{◌≡◌};
 ghost use Rattle.clocks.specs.Rearming.{Rearmed};
 ghost use Rattle.clocks.specs.Specs.{spec_clock, spec_deadline, rearmed_at, recorded_spec, capability_of};
 ghost use Rattle.clocks.specs.Timers.{admission, armed, lacking_of, evaluation};
-ghost use Rattle.clocks.specs.Told.{timer_spec_option_told, admits_result_told, timer_result_told, deadline_result_told};
+ghost use Rattle.clocks.specs.Told.{timer_spec_told, timer_told, deadline_told};
 
-use errors::{KernelError, Told};
+use errors::{KernelError, Tell, TellAs, Told};
 use ids::ClockKind;
 
 // What a timer waits for.
@@ -23,13 +23,6 @@ pub enum TimerSpec {
     AfterBoot { ticks: u64 },
     // A reading of a clock that survives power loss.
     AtPersistentTime { instant: u64 },
-}
-
-// Option<TimerSpec> in the Rust.
-#[derive(Clone, Copy)]
-pub enum TimerSpecOption {
-    Some(TimerSpec),
-    None,
 }
 
 impl TimerSpec {
@@ -60,25 +53,22 @@ impl TimerSpec {
         ensures law { Rearmed self recorded now result }
     {
         match self {
-            TimerSpec::AfterBoot { ticks: _ } => { if now < recorded { now } else { recorded } }
+            TimerSpec::AfterBoot { ticks: _ } => recorded.min(now),
             TimerSpec::AtPersistentTime { instant: _ } => recorded,
         }
     }
 
     // The spec that a recorded clock kind and deadline name, or none.
-    pub fn recorded(clock_kind: ClockKind, deadline: u64) -> TimerSpecOption
+    pub fn recorded(clock_kind: ClockKind, deadline: u64) -> Option<TimerSpec>
         ensures { result ≡ recorded_spec clock_kind deadline }
     {
-        let kind = clock_kind.0;
-        let boot = ClockKind::AFTER_BOOT;
-        if kind == boot.0 {
-            return TimerSpecOption::Some(TimerSpec::AfterBoot { ticks: deadline });
+        match clock_kind {
+            ClockKind::AFTER_BOOT => Some(TimerSpec::AfterBoot { ticks: deadline }),
+            ClockKind::AT_PERSISTENT_TIME => Some(TimerSpec::AtPersistentTime {
+                instant: deadline,
+            }),
+            _ => None,
         }
-        let persistent = ClockKind::AT_PERSISTENT_TIME;
-        if kind == persistent.0 {
-            return TimerSpecOption::Some(TimerSpec::AtPersistentTime { instant: deadline });
-        }
-        TimerSpecOption::None
     }
 }
 
@@ -89,43 +79,27 @@ pub enum ClockCapability {
     Persistent,
 }
 
-// A capability, or none where a number names none.
-#[derive(Clone, Copy)]
-pub enum ClockCapabilityOption {
-    Some(ClockCapability),
-    None,
-}
-
-// Result<(), KernelError> in the Rust.
-#[derive(Clone, Copy)]
-pub enum AdmitsResult {
-    Ok,
-    Err(KernelError),
-}
-
 impl ClockCapability {
     // The capability with this number: 0 is `BootOnly`, 1 `Persistent`, no other names one.
-    pub fn of(number: u64) -> ClockCapabilityOption
+    pub fn of(number: u64) -> Option<ClockCapability>
         ensures { result ≡ capability_of number }
     {
-        if number == 0 {
-            return ClockCapabilityOption::Some(ClockCapability::BootOnly);
+        match number {
+            0 => Some(ClockCapability::BootOnly),
+            1 => Some(ClockCapability::Persistent),
+            _ => None,
         }
-        if number == 1 {
-            return ClockCapabilityOption::Some(ClockCapability::Persistent);
-        }
-        ClockCapabilityOption::None
     }
 
     // Whether a board with these clocks can time a spec.
-    pub fn admits(self, spec: TimerSpec) -> AdmitsResult
+    pub fn admits(self, spec: TimerSpec) -> Result<(), KernelError>
         ensures { result ≡ admission self spec }
     {
         match spec {
-            TimerSpec::AfterBoot { ticks: _ } => AdmitsResult::Ok,
+            TimerSpec::AfterBoot { ticks: _ } => Ok(()),
             TimerSpec::AtPersistentTime { instant: _ } => match self {
-                ClockCapability::BootOnly => AdmitsResult::Err(KernelError::NoPersistentClock),
-                ClockCapability::Persistent => AdmitsResult::Ok,
+                ClockCapability::BootOnly => Err(KernelError::NoPersistentClock),
+                ClockCapability::Persistent => Ok(()),
             },
         }
     }
@@ -138,13 +112,6 @@ pub struct Timer {
     pub armed_at: u64,
 }
 
-// Result<Timer, KernelError> in the Rust.
-#[derive(Clone, Copy)]
-pub enum TimerResult {
-    Ok(Timer),
-    Err(KernelError),
-}
-
 // What a reading says about an armed timer.
 #[derive(Clone, Copy)]
 pub enum Deadline {
@@ -152,25 +119,16 @@ pub enum Deadline {
     Remaining { ticks: u64 },
 }
 
-// Result<Deadline, KernelError> in the Rust.
-#[derive(Clone, Copy)]
-pub enum DeadlineResult {
-    Ok(Deadline),
-    Err(KernelError),
-}
-
 impl Timer {
     // Arms a spec at a reading of its own clock, where the board can time it.
-    pub fn arm(spec: TimerSpec, capability: ClockCapability, now: u64) -> TimerResult
+    pub fn arm(spec: TimerSpec, capability: ClockCapability, now: u64) -> Result<Timer, KernelError>
         ensures { result ≡ armed spec capability now }
     {
-        match capability.admits(spec) {
-            AdmitsResult::Ok => TimerResult::Ok(Timer {
-                spec,
-                armed_at: now,
-            }),
-            AdmitsResult::Err(error) => TimerResult::Err(error),
-        }
+        capability.admits(spec)?;
+        Ok(Timer {
+            spec,
+            armed_at: now,
+        })
     }
 
     pub fn spec(self) -> TimerSpec
@@ -186,22 +144,17 @@ impl Timer {
     }
 
     // What a reading says about this deadline.
-    pub fn evaluate(self, reading: u64) -> DeadlineResult
+    pub fn evaluate(self, reading: u64) -> Result<Deadline, KernelError>
         ensures { result ≡ evaluation self reading }
     {
         let armed_at = self.armed_at;
         if reading < armed_at {
-            return DeadlineResult::Err(KernelError::ClockWentBackwards);
+            return Err(KernelError::ClockWentBackwards);
         }
         let spec = self.spec;
         match spec {
-            TimerSpec::AfterBoot { ticks } => DeadlineResult::Ok(lacking(
-                ticks,
-                reading - armed_at,
-            )),
-            TimerSpec::AtPersistentTime { instant } => DeadlineResult::Ok(lacking(
-                instant, reading,
-            )),
+            TimerSpec::AfterBoot { ticks } => Ok(lacking(ticks, reading - armed_at)),
+            TimerSpec::AtPersistentTime { instant } => Ok(lacking(instant, reading)),
         }
     }
 }
@@ -219,66 +172,39 @@ fn lacking(goal: u64, reached: u64) -> Deadline
     }
 }
 
-impl TimerSpecOption {
-    pub fn told(self) -> Told
-        ensures { result ≡ timer_spec_option_told self }
-    {
-        match self {
-            TimerSpecOption::Some(spec) => Told::new(
-                1,
-                spec.clock_kind().0 as u64,
-                spec.deadline(),
-                0,
-                0,
-                0,
-            ),
-            TimerSpecOption::None => Told::new(0, 0, 0, 0, 0, 0),
-        }
+// A spec is told by its clock and its deadline.
+impl TellAs for TimerSpec {
+    ghost tells_as = { timer_spec_told };
+
+    fn told_as(self, number: u64) -> Told {
+        Told::new(number, self.clock_kind().0 as u64, self.deadline(), 0, 0, 0)
     }
 }
 
-impl AdmitsResult {
-    pub fn told(self) -> Told
-        ensures { result ≡ admits_result_told self }
-    {
-        match self {
-            AdmitsResult::Ok => Told::new(0, 0, 0, 0, 0, 0),
-            AdmitsResult::Err(error) => error.told(),
-        }
+// A timer is told by its spec and its armed time, behind 0.
+impl Tell for Timer {
+    ghost tells = { timer_told };
+
+    fn told(self) -> Told {
+        let spec = self.spec;
+        Told::new(
+            0,
+            spec.clock_kind().0 as u64,
+            spec.deadline(),
+            self.armed_at,
+            0,
+            0,
+        )
     }
 }
 
-impl TimerResult {
-    pub fn told(self) -> Told
-        ensures { result ≡ timer_result_told self }
-    {
-        match self {
-            TimerResult::Ok(timer) => {
-                let spec = timer.spec;
-                Told::new(
-                    0,
-                    spec.clock_kind().0 as u64,
-                    spec.deadline(),
-                    timer.armed_at,
-                    0,
-                    0,
-                )
-            }
-            TimerResult::Err(error) => error.told(),
-        }
-    }
-}
+impl Tell for Deadline {
+    ghost tells = { deadline_told };
 
-impl DeadlineResult {
-    pub fn told(self) -> Told
-        ensures { result ≡ deadline_result_told self }
-    {
+    fn told(self) -> Told {
         match self {
-            DeadlineResult::Ok(deadline) => match deadline {
-                Deadline::Elapsed => Told::new(0, 0, 0, 0, 0, 0),
-                Deadline::Remaining { ticks } => Told::new(1, ticks, 0, 0, 0, 0),
-            },
-            DeadlineResult::Err(error) => error.told(),
+            Deadline::Elapsed => Told::new(0, 0, 0, 0, 0, 0),
+            Deadline::Remaining { ticks } => Told::new(1, ticks, 0, 0, 0, 0),
         }
     }
 }

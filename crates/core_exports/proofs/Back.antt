@@ -1,52 +1,38 @@
 -- The numbers that an export tells of a state name that state: no answer's state is ever refused.
+use Rattle.std.specs.Prelude.{Option, Some, None}
+use Rattle.ids.specs.declared.EffectSeq.{EffectSeq}
 use Prim.Native.Nat.{ℕ}
 use mathlib.Core.Path.{◌≡◌, refl, ap, sym, ◌∙◌}
 use Rattle.errors.specs.declared.KernelError.{KernelError}
 use Rattle.errors.specs.declared.KernelError.TheVariants as KernelError
 use Rattle.errors.specs.Errors.{error_number}
 use Rattle.ids.specs.declared.RunId.{RunId}
-use Rattle.ids.specs.declared.SeqOption.{SeqOption}
-use Rattle.ids.specs.declared.SeqOption.TheVariants as SeqOption
 use Rattle.ids.specs.declared.EffectIdAllocator.{EffectIdAllocator}
 use Rattle.cursor.specs.declared.State.{State}
 use Rattle.cursor.specs.declared.State.TheVariants as State
 use Rattle.cursor.specs.declared.ReplayCursor.{ReplayCursor}
 use Rattle.machine.specs.declared.Divergence.{Divergence}
 use Rattle.machine.specs.declared.Divergence.TheVariants as Divergence
-use Rattle.machine.specs.declared.DivergenceOption.{DivergenceOption}
-use Rattle.machine.specs.declared.DivergenceOption.TheVariants as DivergenceOption
 use Rattle.machine.specs.declared.Phase.{Phase}
 use Rattle.machine.specs.declared.Phase.TheVariants as Phase
 use Rattle.machine.specs.declared.ReplayMachine.{ReplayMachine}
 use Rattle.machine.specs.Divergences.{divergence_number, divergence_named}
 use Rattle.core_exports.specs.declared.IdsNumbers.{IdsNumbers}
 use Rattle.core_exports.specs.declared.CursorNumbers.{CursorNumbers}
-use Rattle.core_exports.specs.declared.given.IdsOption.{IdsOption}
-use Rattle.core_exports.specs.declared.given.IdsOption.TheVariants as IdsOption
-use Rattle.core_exports.specs.declared.given.ErrorOption.{ErrorOption}
-use Rattle.core_exports.specs.declared.given.ErrorOption.TheVariants as ErrorOption
-use Rattle.core_exports.specs.declared.given.StateOption.{StateOption}
-use Rattle.core_exports.specs.declared.given.StateOption.TheVariants as StateOption
-use Rattle.core_exports.specs.declared.given.CursorOption.{CursorOption}
-use Rattle.core_exports.specs.declared.given.CursorOption.TheVariants as CursorOption
-use Rattle.core_exports.specs.declared.given.PhaseOption.{PhaseOption}
-use Rattle.core_exports.specs.declared.given.PhaseOption.TheVariants as PhaseOption
-use Rattle.core_exports.specs.declared.given.MachineOption.{MachineOption}
-use Rattle.core_exports.specs.declared.given.MachineOption.TheVariants as MachineOption
 use Rattle.core_exports.specs.Given.{ids_named, error_named, halted_by, state_named, cursor_by, cursor_named}
 use Rattle.core_exports.specs.Given.{diverged_by, phase_named, machine_with, machine_named}
 use Rattle.core_exports.specs.Numbers.{ids_numbers_for, ids_numbers, cursor_numbers_for, cursor_numbers}
 use Rattle.core_exports.specs.MachineNumbers.{machine_numbers_for, machine_numbers}
 use Rattle.core_exports.proofs.Arms.{by_arms}
 
-offer_back : (run : RunId) (next : SeqOption) → ids_named (ids_numbers_for run.0 next) ≡ IdsOption.Some (record { run = run; next = next })
-offer_back run (SeqOption.Some seq) = refl
-offer_back run SeqOption.None = refl
+offer_back : (run : RunId) (next : Option EffectSeq) → ids_named (ids_numbers_for run.0 next) ≡ Some (record { run = run; next = next })
+offer_back run (Some seq) = refl
+offer_back run None = refl
 
-pub ids_back : (ids : EffectIdAllocator) → ids_named (ids_numbers ids) ≡ IdsOption.Some ids
+pub ids_back : (ids : EffectIdAllocator) → ids_named (ids_numbers ids) ≡ Some ids
 ids_back ids = offer_back ids.run ids.next
 
-error_back : (x : KernelError) → error_named (error_number x) ≡ ErrorOption.Some x
+error_back : (x : KernelError) → error_named (error_number x) ≡ Some x
 error_back KernelError.IdExhausted = refl
 error_back KernelError.NondeterministicWorkflow = refl
 error_back KernelError.IncompatibleWorkflow = refl
@@ -54,7 +40,7 @@ error_back KernelError.MalformedHistory = refl
 error_back KernelError.NoPersistentClock = refl
 error_back KernelError.ClockWentBackwards = refl
 
-state_back : (ids : IdsNumbers) (failed : ℕ) (state : State) → state_named (cursor_numbers_for ids failed state) ≡ StateOption.Some state
+state_back : (ids : IdsNumbers) (failed : ℕ) (state : State) → state_named (cursor_numbers_for ids failed state) ≡ Some state
 state_back ids failed State.BeforeRun = refl
 state_back ids failed State.Replaying = refl
 state_back ids failed (State.AwaitingOutcome scheduled) = refl
@@ -74,14 +60,14 @@ beside ids failed State.RunCompleted = (refl, refl)
 beside ids failed State.RunFailed = (refl, refl)
 beside ids failed (State.Halted x) = (refl, refl)
 
-pub cursor_back : (c : ReplayCursor) → cursor_named (cursor_numbers c) ≡ CursorOption.Some c
+pub cursor_back : (c : ReplayCursor) → cursor_named (cursor_numbers c) ≡ Some c
 cursor_back c =
     let told = beside (ids_numbers c.ids) c.failed c.state in
     ap (λ (n : ℕ). cursor_by n (ids_named (cursor_numbers c).ids) (state_named (cursor_numbers c))) told.1 ∙
     sym
     (by_arms (cursor_by c.failed) (ap ids_named told.0 ∙ ids_back c.ids) (state_back (ids_numbers c.ids) c.failed c.state) refl)
 
-divergence_back : (d : Divergence) → divergence_named (divergence_number d) ≡ DivergenceOption.Some d
+divergence_back : (d : Divergence) → divergence_named (divergence_number d) ≡ Some d
 divergence_back Divergence.Sequence = refl
 divergence_back Divergence.Kind = refl
 divergence_back Divergence.Length = refl
@@ -92,7 +78,7 @@ divergence_back Divergence.Deadline = refl
 divergence_back Divergence.Boundary = refl
 
 phase_back : (c : CursorNumbers) (phase : Phase) →
-    phase_named (machine_numbers_for c phase).phase (machine_numbers_for c phase).divergence ≡ PhaseOption.Some phase
+    phase_named (machine_numbers_for c phase).phase (machine_numbers_for c phase).divergence ≡ Some phase
 phase_back c Phase.Settled = refl
 phase_back c Phase.AwaitingOutcome = refl
 phase_back c Phase.AwaitingFiring = refl
@@ -104,7 +90,7 @@ under c Phase.AwaitingOutcome = refl
 under c Phase.AwaitingFiring = refl
 under c (Phase.Diverged d) = refl
 
-pub machine_back : (m : ReplayMachine) → machine_named (machine_numbers m) ≡ MachineOption.Some m
+pub machine_back : (m : ReplayMachine) → machine_named (machine_numbers m) ≡ Some m
 machine_back m =
     sym
     (by_arms machine_with (ap cursor_named (under (cursor_numbers m.cursor) m.phase) ∙ cursor_back m.cursor)

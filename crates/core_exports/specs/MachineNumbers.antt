@@ -1,7 +1,7 @@
 -- The machine at the boundary to C and Rust: its values as plain numbers, and its calls.
+use Rattle.std.specs.Prelude.{Option, Some, None}
+use Rattle.records.specs.declared.RecordRef.{RecordRef}
 use Rattle.errors.specs.declared.Told.{Told}
-use Rattle.records.specs.declared.RecordRefOption.{RecordRefOption}
-use Rattle.records.specs.declared.RecordRefOption.TheVariants as RecordRefOption
 use Rattle.cursor.specs.declared.PendingEffect.{PendingEffect}
 use Rattle.answer_numbers.specs.CursorTold.{step_result_told}
 use Rattle.machine.specs.declared.EffectRequest.{EffectRequest}
@@ -17,12 +17,8 @@ use Rattle.core_exports.specs.declared.machines.RequestNumbers.{RequestNumbers}
 use Rattle.core_exports.specs.declared.machines.PendingNumbers.{PendingNumbers}
 use Rattle.core_exports.specs.declared.machines.MachineNumbers.{MachineNumbers}
 use Rattle.core_exports.specs.declared.machines.MachineAnswered.{MachineAnswered}
-use Rattle.core_exports.specs.declared.given.MachineOption.{MachineOption}
-use Rattle.core_exports.specs.declared.given.MachineOption.TheVariants as MachineOption
 use Rattle.core_exports.specs.declared.given.TurnOption.{TurnOption}
 use Rattle.core_exports.specs.declared.given.TurnOption.TheVariants as TurnOption
-use Rattle.core_exports.specs.declared.given.TimerRequestOption.{TimerRequestOption}
-use Rattle.core_exports.specs.declared.given.TimerRequestOption.TheVariants as TimerRequestOption
 use Rattle.core_exports.specs.Numbers.{unnamed, cursor_numbers}
 
 abbrev pub request_of : RequestNumbers → EffectRequest
@@ -50,19 +46,19 @@ abbrev pub answered : ReplayMachine → Told → MachineAnswered
 answered m told = record { machine = machine_numbers m; answer = told }
 
 -- what is said of the machine that the numbers name; where they name none, 60
-abbrev pub of_machine : (ReplayMachine → Told) → MachineOption → Told
-of_machine says (MachineOption.Some m) = says m
-of_machine says MachineOption.None = unnamed
+abbrev pub of_machine : (ReplayMachine → Told) → Option ReplayMachine → Told
+of_machine says (Some m) = says m
+of_machine says None = unnamed
 
 -- where a number names nothing, the machine's numbers are given back as they were given, with 60
 abbrev pub machine_kept : MachineNumbers → MachineAnswered
 machine_kept given = record { machine = given; answer = unnamed }
 
-abbrev pub machine_advanced_by : MachineNumbers → MachineOption → RecordRefOption → MachineAnswered
-machine_advanced_by given (MachineOption.Some m) (RecordRefOption.Some x) =
+abbrev pub machine_advanced_by : MachineNumbers → Option ReplayMachine → Option RecordRef → MachineAnswered
+machine_advanced_by given (Some m) (Some x) =
     answered (machine_advance_rule m x).machine (step_result_told (machine_advance_rule m x).answer)
-machine_advanced_by given (MachineOption.Some m) RecordRefOption.None = machine_kept given
-machine_advanced_by given MachineOption.None x = machine_kept given
+machine_advanced_by given (Some m) None = machine_kept given
+machine_advanced_by given None x = machine_kept given
 
 -- a call with the record or the end of history
 abbrev pub called_by : MachineNumbers → (ReplayMachine → Next → MachineAnswered) → TurnOption → MachineAnswered
@@ -70,6 +66,6 @@ called_by given call (TurnOption.Some m next) = call m next
 called_by given call TurnOption.None = machine_kept given
 
 -- a timer's request besides
-abbrev pub requested_by : MachineNumbers → (TimerRequest → MachineAnswered) → TimerRequestOption → MachineAnswered
-requested_by given call (TimerRequestOption.Some request) = call request
-requested_by given call TimerRequestOption.None = machine_kept given
+abbrev pub requested_by : MachineNumbers → (TimerRequest → MachineAnswered) → Option TimerRequest → MachineAnswered
+requested_by given call (Some request) = call request
+requested_by given call None = machine_kept given

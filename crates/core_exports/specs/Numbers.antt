@@ -1,23 +1,16 @@
 -- The boundary to C and Rust: values as plain numbers, and what is answered where a given number names nothing.
-use Rattle.std.specs.Prelude.{ℕ}
+use Rattle.std.specs.Prelude.{ℕ, Option, Some, None}
+use Rattle.ids.specs.declared.EffectSeq.{EffectSeq}
 use Rattle.errors.specs.declared.Told.{Told}
 use Rattle.errors.specs.Errors.{error_number}
 use Rattle.errors.specs.Told.{told0}
-use Rattle.ids.specs.declared.SeqOption.{SeqOption}
-use Rattle.ids.specs.declared.SeqOption.TheVariants as SeqOption
 use Rattle.ids.specs.declared.EffectIdAllocator.{EffectIdAllocator}
 use Rattle.ids.specs.declared.Allocated.{Allocated}
 use Rattle.ids.specs.Allocator.{resumed, allocation}
 use Rattle.ids.specs.Told.{effect_id_result_told}
 use Rattle.clocks.specs.declared.ClockCapability.{ClockCapability}
-use Rattle.clocks.specs.declared.ClockCapabilityOption.{ClockCapabilityOption}
-use Rattle.clocks.specs.declared.ClockCapabilityOption.TheVariants as ClockCapabilityOption
 use Rattle.clocks.specs.declared.TimerSpec.{TimerSpec}
-use Rattle.clocks.specs.declared.TimerSpecOption.{TimerSpecOption}
-use Rattle.clocks.specs.declared.TimerSpecOption.TheVariants as TimerSpecOption
 use Rattle.records.specs.declared.RecordRef.{RecordRef}
-use Rattle.records.specs.declared.RecordRefOption.{RecordRefOption}
-use Rattle.records.specs.declared.RecordRefOption.TheVariants as RecordRefOption
 use Rattle.cursor.specs.declared.State.{State}
 use Rattle.cursor.specs.declared.State.TheVariants as State
 use Rattle.cursor.specs.declared.ReplayCursor.{ReplayCursor}
@@ -28,12 +21,6 @@ use Rattle.core_exports.specs.declared.IdsNumbers.{IdsNumbers}
 use Rattle.core_exports.specs.declared.AllocatedNumbers.{AllocatedNumbers}
 use Rattle.core_exports.specs.declared.CursorNumbers.{CursorNumbers}
 use Rattle.core_exports.specs.declared.AdvancedNumbers.{AdvancedNumbers}
-use Rattle.core_exports.specs.declared.given.OfferOption.{OfferOption}
-use Rattle.core_exports.specs.declared.given.OfferOption.TheVariants as OfferOption
-use Rattle.core_exports.specs.declared.given.IdsOption.{IdsOption}
-use Rattle.core_exports.specs.declared.given.IdsOption.TheVariants as IdsOption
-use Rattle.core_exports.specs.declared.given.CursorOption.{CursorOption}
-use Rattle.core_exports.specs.declared.given.CursorOption.TheVariants as CursorOption
 
 -- the refusal of this boundary, "a number here names nothing", which neither 01 nor 02 numbers
 abbrev pub names_nothing : ℕ
@@ -43,25 +30,25 @@ abbrev pub unnamed : Told
 unnamed = told0 names_nothing
 
 -- what is said of the value that the numbers name; where they name none, 60
-abbrev pub of_ids : (EffectIdAllocator → Told) → IdsOption → Told
-of_ids says (IdsOption.Some ids) = says ids
-of_ids says IdsOption.None = unnamed
+abbrev pub of_ids : (EffectIdAllocator → Told) → Option EffectIdAllocator → Told
+of_ids says (Some ids) = says ids
+of_ids says None = unnamed
 
-abbrev pub of_spec : (TimerSpec → Told) → TimerSpecOption → Told
-of_spec says (TimerSpecOption.Some spec) = says spec
-of_spec says TimerSpecOption.None = unnamed
+abbrev pub of_spec : (TimerSpec → Told) → Option TimerSpec → Told
+of_spec says (Some spec) = says spec
+of_spec says None = unnamed
 
-abbrev pub of_board : (ClockCapability → Told) → ClockCapabilityOption → Told
-of_board says (ClockCapabilityOption.Some board) = says board
-of_board says ClockCapabilityOption.None = unnamed
+abbrev pub of_board : (ClockCapability → Told) → Option ClockCapability → Told
+of_board says (Some board) = says board
+of_board says None = unnamed
 
-abbrev pub of_record : (RecordRef → Told) → RecordRefOption → Told
-of_record says (RecordRefOption.Some x) = says x
-of_record says RecordRefOption.None = unnamed
+abbrev pub of_record : (RecordRef → Told) → Option RecordRef → Told
+of_record says (Some x) = says x
+of_record says None = unnamed
 
-abbrev pub of_cursor : (ReplayCursor → Told) → CursorOption → Told
-of_cursor says (CursorOption.Some c) = says c
-of_cursor says CursorOption.None = unnamed
+abbrev pub of_cursor : (ReplayCursor → Told) → Option ReplayCursor → Told
+of_cursor says (Some c) = says c
+of_cursor says None = unnamed
 
 -- where a number names nothing, the numbers of the state are given back as they were given, with 60
 abbrev pub ids_kept : IdsNumbers → AllocatedNumbers
@@ -70,9 +57,9 @@ ids_kept given = record { ids = given; answer = unnamed }
 abbrev pub cursor_kept : CursorNumbers → AdvancedNumbers
 cursor_kept given = record { cursor = given; answer = unnamed }
 
-abbrev pub ids_numbers_for : ℕ → SeqOption → IdsNumbers
-ids_numbers_for run (SeqOption.Some seq) = record { run = run; next = seq.0; offers = 1 }
-ids_numbers_for run SeqOption.None = record { run = run; next = 0; offers = 0 }
+abbrev pub ids_numbers_for : ℕ → Option EffectSeq → IdsNumbers
+ids_numbers_for run (Some seq) = record { run = run; next = seq.0; offers = 1 }
+ids_numbers_for run None = record { run = run; next = 0; offers = 0 }
 
 abbrev pub ids_numbers : EffectIdAllocator → IdsNumbers
 ids_numbers ids = ids_numbers_for ids.run.0 ids.next
@@ -80,15 +67,15 @@ ids_numbers ids = ids_numbers_for ids.run.0 ids.next
 abbrev pub allocated_numbers : Allocated → AllocatedNumbers
 allocated_numbers a = record { ids = ids_numbers a.ids; answer = effect_id_result_told a.answer }
 
-abbrev pub allocated_by : IdsNumbers → IdsOption → AllocatedNumbers
-allocated_by given (IdsOption.Some ids) = allocated_numbers (allocation ids)
-allocated_by given IdsOption.None = ids_kept given
+abbrev pub allocated_by : IdsNumbers → Option EffectIdAllocator → AllocatedNumbers
+allocated_by given (Some ids) = allocated_numbers (allocation ids)
+allocated_by given None = ids_kept given
 
 -- the allocator that goes on after what was committed, with 0
-abbrev pub resumed_by : IdsNumbers → OfferOption → AllocatedNumbers
-resumed_by given (OfferOption.Some last) =
+abbrev pub resumed_by : IdsNumbers → Option (Option EffectSeq) → AllocatedNumbers
+resumed_by given (Some last) =
     record { ids = ids_numbers (resumed (record { 0 = given.run }) last); answer = told0 0 }
-resumed_by given OfferOption.None = ids_kept given
+resumed_by given None = ids_kept given
 
 -- a cursor that holds nothing open; its error is 0 unless it has halted
 abbrev pub bare : IdsNumbers → ℕ → ℕ → ℕ → CursorNumbers
@@ -149,7 +136,7 @@ cursor_numbers c = cursor_numbers_for (ids_numbers c.ids) c.failed c.state
 abbrev pub advanced_numbers : Advanced → AdvancedNumbers
 advanced_numbers a = record { cursor = cursor_numbers a.cursor; answer = step_result_told a.answer }
 
-abbrev pub cursor_advanced_by : CursorNumbers → CursorOption → RecordRefOption → AdvancedNumbers
-cursor_advanced_by given (CursorOption.Some c) (RecordRefOption.Some x) = advanced_numbers (advance_rule c x)
-cursor_advanced_by given (CursorOption.Some c) RecordRefOption.None = cursor_kept given
-cursor_advanced_by given CursorOption.None x = cursor_kept given
+abbrev pub cursor_advanced_by : CursorNumbers → Option ReplayCursor → Option RecordRef → AdvancedNumbers
+cursor_advanced_by given (Some c) (Some x) = advanced_numbers (advance_rule c x)
+cursor_advanced_by given (Some c) None = cursor_kept given
+cursor_advanced_by given None x = cursor_kept given

@@ -6,61 +6,12 @@ ghost use Rattle.core_exports.specs.Given.{next_named, phase_named, machine_name
 
 use crate::machines::MachineNumbers;
 use crate::{CursorNumbers, IdsNumbers, RecordNumbers, SpecNumbers};
-use clocks::{ClockCapability, ClockCapabilityOption, TimerSpec, TimerSpecOption};
+use clocks::{ClockCapability, TimerSpec, };
 use cursor::{OpenTimer, ReplayCursor, Scheduled, State};
 use errors::KernelError;
-use ids::{ActivityKind, ClockKind, EffectIdAllocator, EffectSeq, RunId, SeqOption};
-use machine::{Divergence, DivergenceOption, Next, Phase, ReplayMachine, TimerRequest};
-use records::{Body, RecordRef, RecordRefOption};
-
-// A number that is offered or not, by its flag.
-#[derive(Clone, Copy)]
-pub enum OfferOption {
-    Some(SeqOption),
-    None,
-}
-
-#[derive(Clone, Copy)]
-pub enum IdsOption {
-    Some(EffectIdAllocator),
-    None,
-}
-
-#[derive(Clone, Copy)]
-pub enum ErrorOption {
-    Some(KernelError),
-    None,
-}
-
-#[derive(Clone, Copy)]
-pub enum StateOption {
-    Some(State),
-    None,
-}
-
-#[derive(Clone, Copy)]
-pub enum CursorOption {
-    Some(ReplayCursor),
-    None,
-}
-
-#[derive(Clone, Copy)]
-pub enum NextOption {
-    Some(Next),
-    None,
-}
-
-#[derive(Clone, Copy)]
-pub enum PhaseOption {
-    Some(Phase),
-    None,
-}
-
-#[derive(Clone, Copy)]
-pub enum MachineOption {
-    Some(ReplayMachine),
-    None,
-}
+use ids::{ActivityKind, ClockKind, EffectIdAllocator, EffectSeq, RunId, };
+use machine::{Divergence, Next, Phase, ReplayMachine, TimerRequest};
+use records::{Body, RecordRef, };
 
 // A machine with the record or the end of history that it is asked about.
 #[derive(Clone, Copy)]
@@ -69,41 +20,35 @@ pub enum TurnOption {
     None,
 }
 
-#[derive(Clone, Copy)]
-pub enum TimerRequestOption {
-    Some(TimerRequest),
-    None,
-}
-
-pub(crate) fn offer_of(flag: u8, n: u32) -> OfferOption
+pub(crate) fn offer_of(flag: u8, n: u32) -> Option<Option<EffectSeq>>
     ensures { result ≡ offer_named flag n }
 {
     match flag {
-        0 => OfferOption::Some(SeqOption::None),
-        1 => OfferOption::Some(SeqOption::Some(EffectSeq(n))),
-        _ => OfferOption::None,
+        0 => Some(None),
+        1 => Some(Some(EffectSeq(n))),
+        _ => None,
     }
 }
 
-pub(crate) fn ids_of(ids: IdsNumbers) -> IdsOption
+pub(crate) fn ids_of(ids: IdsNumbers) -> Option<EffectIdAllocator>
     ensures { result ≡ ids_named ids }
 {
     match offer_of(ids.offers, ids.next) {
-        OfferOption::Some(next) => IdsOption::Some(EffectIdAllocator {
+        Some(next) => Some(EffectIdAllocator {
             run: RunId(ids.run),
             next,
         }),
-        OfferOption::None => IdsOption::None,
+        None => None,
     }
 }
 
-pub(crate) fn spec_of(spec: SpecNumbers) -> TimerSpecOption
+pub(crate) fn spec_of(spec: SpecNumbers) -> Option<TimerSpec>
     ensures { result ≡ spec_named spec }
 {
     TimerSpec::recorded(ClockKind(spec.clock), spec.deadline)
 }
 
-pub(crate) fn record_of(n: RecordNumbers) -> RecordRefOption
+pub(crate) fn record_of(n: RecordNumbers) -> Option<RecordRef>
     ensures { result ≡ record_named n }
 {
     let body = Body {
@@ -113,116 +58,116 @@ pub(crate) fn record_of(n: RecordNumbers) -> RecordRefOption
     RecordRef::of(n.kind, n.clock, n.a, n.s, n.d, n.m, body)
 }
 
-fn error_of(n: u8) -> ErrorOption
+fn error_of(n: u8) -> Option<KernelError>
     ensures { result ≡ error_named n }
 {
     match n {
-        21 => ErrorOption::Some(KernelError::IdExhausted),
-        22 => ErrorOption::Some(KernelError::NondeterministicWorkflow),
-        23 => ErrorOption::Some(KernelError::IncompatibleWorkflow),
-        24 => ErrorOption::Some(KernelError::MalformedHistory),
-        25 => ErrorOption::Some(KernelError::NoPersistentClock),
-        26 => ErrorOption::Some(KernelError::ClockWentBackwards),
-        _ => ErrorOption::None,
+        21 => Some(KernelError::IdExhausted),
+        22 => Some(KernelError::NondeterministicWorkflow),
+        23 => Some(KernelError::IncompatibleWorkflow),
+        24 => Some(KernelError::MalformedHistory),
+        25 => Some(KernelError::NoPersistentClock),
+        26 => Some(KernelError::ClockWentBackwards),
+        _ => None,
     }
 }
 
-fn state_of(n: CursorNumbers) -> StateOption
+fn state_of(n: CursorNumbers) -> Option<State>
     ensures { result ≡ state_named n }
 {
     let position = n.position;
     match position {
-        0 => StateOption::Some(State::BeforeRun),
-        1 => StateOption::Some(State::Replaying),
-        2 => StateOption::Some(State::AwaitingOutcome(Scheduled {
+        0 => Some(State::BeforeRun),
+        1 => Some(State::Replaying),
+        2 => Some(State::AwaitingOutcome(Scheduled {
             seq: EffectSeq(n.seq),
             kind: ActivityKind(n.kind),
             input_len: n.input_len,
             input_crc: n.input_crc,
         })),
-        3 => StateOption::Some(State::AwaitingTimer(OpenTimer {
+        3 => Some(State::AwaitingTimer(OpenTimer {
             seq: EffectSeq(n.seq),
             clock_kind: ClockKind(n.clock_kind),
             deadline: n.deadline,
             armed_at: n.armed_at,
         })),
-        4 => StateOption::Some(State::RunCompleted),
-        5 => StateOption::Some(State::RunFailed),
+        4 => Some(State::RunCompleted),
+        5 => Some(State::RunFailed),
         6 => match error_of(n.error) {
-            ErrorOption::Some(error) => StateOption::Some(State::Halted(error)),
-            ErrorOption::None => StateOption::None,
+            Some(error) => Some(State::Halted(error)),
+            None => None,
         },
-        _ => StateOption::None,
+        _ => None,
     }
 }
 
-pub(crate) fn cursor_of(n: CursorNumbers) -> CursorOption
+pub(crate) fn cursor_of(n: CursorNumbers) -> Option<ReplayCursor>
     ensures { result ≡ cursor_named n }
 {
     match ids_of(n.ids) {
-        IdsOption::Some(ids) => match state_of(n) {
-            StateOption::Some(state) => {
-                CursorOption::Some(ReplayCursor::at(ids, state).with_failed(n.failed))
+        Some(ids) => match state_of(n) {
+            Some(state) => {
+                Some(ReplayCursor::at(ids, state).with_failed(n.failed))
             }
-            StateOption::None => CursorOption::None,
+            None => None,
         },
-        IdsOption::None => CursorOption::None,
+        None => None,
     }
 }
 
-fn divergence_of(n: u8) -> DivergenceOption
+fn divergence_of(n: u8) -> Option<Divergence>
     ensures { result ≡ divergence_named n }
 {
     match n {
-        1 => DivergenceOption::Some(Divergence::Sequence),
-        2 => DivergenceOption::Some(Divergence::Kind),
-        4 => DivergenceOption::Some(Divergence::BoundaryKind),
-        5 => DivergenceOption::Some(Divergence::Gate),
-        6 => DivergenceOption::Some(Divergence::Deadline),
-        7 => DivergenceOption::Some(Divergence::Boundary),
-        8 => DivergenceOption::Some(Divergence::Length),
-        9 => DivergenceOption::Some(Divergence::Crc),
-        _ => DivergenceOption::None,
+        1 => Some(Divergence::Sequence),
+        2 => Some(Divergence::Kind),
+        4 => Some(Divergence::BoundaryKind),
+        5 => Some(Divergence::Gate),
+        6 => Some(Divergence::Deadline),
+        7 => Some(Divergence::Boundary),
+        8 => Some(Divergence::Length),
+        9 => Some(Divergence::Crc),
+        _ => None,
     }
 }
 
-fn phase_of(phase: u8, divergence: u8) -> PhaseOption
+fn phase_of(phase: u8, divergence: u8) -> Option<Phase>
     ensures { result ≡ phase_named phase divergence }
 {
     match phase {
-        0 => PhaseOption::Some(Phase::Settled),
-        1 => PhaseOption::Some(Phase::AwaitingOutcome),
-        2 => PhaseOption::Some(Phase::AwaitingFiring),
+        0 => Some(Phase::Settled),
+        1 => Some(Phase::AwaitingOutcome),
+        2 => Some(Phase::AwaitingFiring),
         3 => match divergence_of(divergence) {
-            DivergenceOption::Some(d) => PhaseOption::Some(Phase::Diverged(d)),
-            DivergenceOption::None => PhaseOption::None,
+            Some(d) => Some(Phase::Diverged(d)),
+            None => None,
         },
-        _ => PhaseOption::None,
+        _ => None,
     }
 }
 
-pub(crate) fn machine_of(n: MachineNumbers) -> MachineOption
+pub(crate) fn machine_of(n: MachineNumbers) -> Option<ReplayMachine>
     ensures { result ≡ machine_named n }
 {
     match cursor_of(n.cursor) {
-        CursorOption::Some(cursor) => match phase_of(n.phase, n.divergence) {
-            PhaseOption::Some(phase) => MachineOption::Some(ReplayMachine { cursor, phase }),
-            PhaseOption::None => MachineOption::None,
+        Some(cursor) => match phase_of(n.phase, n.divergence) {
+            Some(phase) => Some(ReplayMachine { cursor, phase }),
+            None => None,
         },
-        CursorOption::None => MachineOption::None,
+        None => None,
     }
 }
 
-fn next_of(ended: u8, record: RecordNumbers) -> NextOption
+fn next_of(ended: u8, record: RecordNumbers) -> Option<Next>
     ensures { result ≡ next_named ended «record» }
 {
     match ended {
         0 => match record_of(record) {
-            RecordRefOption::Some(x) => NextOption::Some(Next::Record(x)),
-            RecordRefOption::None => NextOption::None,
+            Some(x) => Some(Next::Record(x)),
+            None => None,
         },
-        1 => NextOption::Some(Next::EndOfHistory),
-        _ => NextOption::None,
+        1 => Some(Next::EndOfHistory),
+        _ => None,
     }
 }
 
@@ -230,25 +175,25 @@ pub(crate) fn turn_of(machine: MachineNumbers, ended: u8, record: RecordNumbers)
     ensures { result ≡ turn_named machine ended «record» }
 {
     match machine_of(machine) {
-        MachineOption::Some(m) => match next_of(ended, record) {
-            NextOption::Some(next) => TurnOption::Some { machine: m, next },
-            NextOption::None => TurnOption::None,
+        Some(m) => match next_of(ended, record) {
+            Some(next) => TurnOption::Some { machine: m, next },
+            None => TurnOption::None,
         },
-        MachineOption::None => TurnOption::None,
+        None => TurnOption::None,
     }
 }
 
-pub(crate) fn timer_request_of(spec: SpecNumbers, capability: u8) -> TimerRequestOption
+pub(crate) fn timer_request_of(spec: SpecNumbers, capability: u8) -> Option<TimerRequest>
     ensures { result ≡ timer_request_named spec capability }
 {
     match spec_of(spec) {
-        TimerSpecOption::Some(named) => match ClockCapability::of(capability as u64) {
-            ClockCapabilityOption::Some(board) => TimerRequestOption::Some(TimerRequest {
+        Some(named) => match ClockCapability::of(capability as u64) {
+            Some(board) => Some(TimerRequest {
                 spec: named,
                 capability: board,
             }),
-            ClockCapabilityOption::None => TimerRequestOption::None,
+            None => None,
         },
-        TimerSpecOption::None => TimerRequestOption::None,
+        None => None,
     }
 }

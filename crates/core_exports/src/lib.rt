@@ -23,12 +23,10 @@ ghost use Rattle.core_exports.specs.Numbers.{unnamed, of_ids, of_spec, of_board,
 ghost use Rattle.core_exports.specs.Numbers.{ids_numbers, allocated_numbers, allocated_by, resumed_by, bare};
 ghost use Rattle.core_exports.specs.Numbers.{cursor_numbers_for, cursor_numbers, advanced_numbers, cursor_advanced_by};
 
-use clocks::{ClockCapability, ClockCapabilityOption, Timer, TimerSpec, TimerSpecOption};
+use clocks::{ClockCapability, Timer, TimerSpec, };
 use cursor::{Advanced, OpenTimer, ReplayCursor, Scheduled, State};
 use errors::Told;
-use given::{CursorOption, IdsOption, OfferOption};
-use ids::{Allocated, ClockKind, EffectIdAllocator, EffectSeq, RunId, SeqOption};
-use records::RecordRefOption;
+use ids::{Allocated, ClockKind, EffectIdAllocator, EffectSeq, RunId, };
 
 mod given;
 pub mod machines;
@@ -122,11 +120,11 @@ pub fn hiskurdo_ids_resume(run: u64, committed: u8, last: u32) -> AllocatedNumbe
     ensures { result ≡ resumed_by (record { run = run; next = last; offers = committed }) (offer_named committed last) }
 {
     match given::offer_of(committed, last) {
-        OfferOption::Some(ended) => AllocatedNumbers {
+        Some(ended) => AllocatedNumbers {
             ids: ids_numbers(EffectIdAllocator::resume(RunId(run), ended)),
             answer: value(0),
         },
-        OfferOption::None => ids_kept(IdsNumbers {
+        None => ids_kept(IdsNumbers {
             run,
             next: last,
             offers: committed,
@@ -138,8 +136,8 @@ pub fn hiskurdo_ids_run(ids: IdsNumbers) -> Told
     ensures { result ≡ of_ids (λ a. told1 0 a.run.0) (ids_named ids) }
 {
     match given::ids_of(ids) {
-        IdsOption::Some(a) => value(a.run().0),
-        IdsOption::None => names_nothing(),
+        Some(a) => value(a.run().0),
+        None => names_nothing(),
     }
 }
 
@@ -147,8 +145,8 @@ pub fn hiskurdo_ids_peek(ids: IdsNumbers) -> Told
     ensures { result ≡ of_ids (λ a. seq_option_told a.next) (ids_named ids) }
 {
     match given::ids_of(ids) {
-        IdsOption::Some(a) => a.peek().told(),
-        IdsOption::None => names_nothing(),
+        Some(a) => a.peek().told(),
+        None => names_nothing(),
     }
 }
 
@@ -156,8 +154,8 @@ pub fn hiskurdo_ids_allocate(ids: IdsNumbers) -> AllocatedNumbers
     ensures { result ≡ allocated_by ids (ids_named ids) }
 {
     match given::ids_of(ids) {
-        IdsOption::Some(a) => allocated_numbers(a.allocate()),
-        IdsOption::None => ids_kept(ids),
+        Some(a) => allocated_numbers(a.allocate()),
+        None => ids_kept(ids),
     }
 }
 
@@ -167,8 +165,8 @@ pub fn hiskurdo_spec_clock_kind(spec: SpecNumbers) -> Told
     ensures { result ≡ of_spec (λ s. told1 0 (spec_clock s).0) (spec_named spec) }
 {
     match given::spec_of(spec) {
-        TimerSpecOption::Some(s) => value(s.clock_kind().0 as u64),
-        TimerSpecOption::None => names_nothing(),
+        Some(s) => value(s.clock_kind().0 as u64),
+        None => names_nothing(),
     }
 }
 
@@ -176,8 +174,8 @@ pub fn hiskurdo_spec_deadline(spec: SpecNumbers) -> Told
     ensures { result ≡ of_spec (λ s. told1 0 (spec_deadline s)) (spec_named spec) }
 {
     match given::spec_of(spec) {
-        TimerSpecOption::Some(s) => value(s.deadline()),
-        TimerSpecOption::None => names_nothing(),
+        Some(s) => value(s.deadline()),
+        None => names_nothing(),
     }
 }
 
@@ -185,8 +183,8 @@ pub fn hiskurdo_spec_rearmed_at(spec: SpecNumbers, recorded: u64, now: u64) -> T
     ensures { result ≡ of_spec (λ s. told1 0 (rearmed_at s recorded now)) (spec_named spec) }
 {
     match given::spec_of(spec) {
-        TimerSpecOption::Some(s) => value(s.rearmed_at(recorded, now)),
-        TimerSpecOption::None => names_nothing(),
+        Some(s) => value(s.rearmed_at(recorded, now)),
+        None => names_nothing(),
     }
 }
 
@@ -201,11 +199,11 @@ pub fn hiskurdo_admits(capability: u8, spec: SpecNumbers) -> Told
     ensures { result ≡ of_board (λ b. of_spec (λ s. admits_result_told (admission b s)) (spec_named spec)) (capability_of capability) }
 {
     match ClockCapability::of(capability as u64) {
-        ClockCapabilityOption::Some(board) => match given::spec_of(spec) {
-            TimerSpecOption::Some(s) => board.admits(s).told(),
-            TimerSpecOption::None => names_nothing(),
+        Some(board) => match given::spec_of(spec) {
+            Some(s) => board.admits(s).told(),
+            None => names_nothing(),
         },
-        ClockCapabilityOption::None => names_nothing(),
+        None => names_nothing(),
     }
 }
 
@@ -213,11 +211,11 @@ pub fn hiskurdo_timer_arm(spec: SpecNumbers, capability: u8, now: u64) -> Told
     ensures { result ≡ of_board (λ b. of_spec (λ s. timer_result_told (armed s b now)) (spec_named spec)) (capability_of capability) }
 {
     match ClockCapability::of(capability as u64) {
-        ClockCapabilityOption::Some(board) => match given::spec_of(spec) {
-            TimerSpecOption::Some(s) => Timer::arm(s, board, now).told(),
-            TimerSpecOption::None => names_nothing(),
+        Some(board) => match given::spec_of(spec) {
+            Some(s) => Timer::arm(s, board, now).told(),
+            None => names_nothing(),
         },
-        ClockCapabilityOption::None => names_nothing(),
+        None => names_nothing(),
     }
 }
 
@@ -226,11 +224,11 @@ pub fn hiskurdo_timer_evaluate(spec: SpecNumbers, armed_at: u64, reading: u64) -
         of_spec (λ s. deadline_result_told (evaluation (record { spec = s; armed_at = armed_at }) reading)) (spec_named spec) }
 {
     match given::spec_of(spec) {
-        TimerSpecOption::Some(s) => {
+        Some(s) => {
             let timer = Timer { spec: s, armed_at };
             timer.evaluate(reading).told()
         }
-        TimerSpecOption::None => names_nothing(),
+        None => names_nothing(),
     }
 }
 
@@ -240,8 +238,8 @@ pub fn hiskurdo_record_kind(record: RecordNumbers) -> Told
     ensures { result ≡ of_record (λ x. told1 0 (kind_number x)) (record_named «record») }
 {
     match given::record_of(record) {
-        RecordRefOption::Some(x) => value(x.kind().0 as u64),
-        RecordRefOption::None => names_nothing(),
+        Some(x) => value(x.kind().0 as u64),
+        None => names_nothing(),
     }
 }
 
@@ -255,8 +253,8 @@ pub fn hiskurdo_cursor_run(cursor: CursorNumbers) -> Told
     ensures { result ≡ of_cursor (λ c. told1 0 (run_of c).0) (cursor_named cursor) }
 {
     match given::cursor_of(cursor) {
-        CursorOption::Some(c) => value(c.run().0),
-        CursorOption::None => names_nothing(),
+        Some(c) => value(c.run().0),
+        None => names_nothing(),
     }
 }
 
@@ -264,8 +262,8 @@ pub fn hiskurdo_cursor_position(cursor: CursorNumbers) -> Told
     ensures { result ≡ of_cursor (λ c. position_told (position_of c)) (cursor_named cursor) }
 {
     match given::cursor_of(cursor) {
-        CursorOption::Some(c) => answer_numbers::position_told(c.position()),
-        CursorOption::None => names_nothing(),
+        Some(c) => answer_numbers::position_told(c.position()),
+        None => names_nothing(),
     }
 }
 
@@ -273,8 +271,8 @@ pub fn hiskurdo_cursor_is_terminal(cursor: CursorNumbers) -> Told
     ensures { result ≡ of_cursor (λ c. told1 0 (cond (terminal_at (position_of c)) 1 0)) (cursor_named cursor) }
 {
     match given::cursor_of(cursor) {
-        CursorOption::Some(c) => value(flag(c.position().is_terminal())),
-        CursorOption::None => names_nothing(),
+        Some(c) => value(flag(c.position().is_terminal())),
+        None => names_nothing(),
     }
 }
 
@@ -282,8 +280,8 @@ pub fn hiskurdo_cursor_pending(cursor: CursorNumbers) -> Told
     ensures { result ≡ of_cursor (λ c. pending_effect_option_told (pending_of c)) (cursor_named cursor) }
 {
     match given::cursor_of(cursor) {
-        CursorOption::Some(c) => answer_numbers::pending_effect_told(c.pending()),
-        CursorOption::None => names_nothing(),
+        Some(c) => answer_numbers::pending_effect_told(c.pending()),
+        None => names_nothing(),
     }
 }
 
@@ -291,8 +289,8 @@ pub fn hiskurdo_cursor_pending_timer(cursor: CursorNumbers) -> Told
     ensures { result ≡ of_cursor (λ c. pending_timer_option_told (pending_timer_of c)) (cursor_named cursor) }
 {
     match given::cursor_of(cursor) {
-        CursorOption::Some(c) => answer_numbers::pending_timer_told(c.pending_timer()),
-        CursorOption::None => names_nothing(),
+        Some(c) => answer_numbers::pending_timer_told(c.pending_timer()),
+        None => names_nothing(),
     }
 }
 
@@ -300,8 +298,8 @@ pub fn hiskurdo_cursor_failed(cursor: CursorNumbers) -> Told
     ensures { result ≡ of_cursor (λ c. told1 0 (failed_of c)) (cursor_named cursor) }
 {
     match given::cursor_of(cursor) {
-        CursorOption::Some(c) => value(c.failed()),
-        CursorOption::None => names_nothing(),
+        Some(c) => value(c.failed()),
+        None => names_nothing(),
     }
 }
 
@@ -309,8 +307,8 @@ pub fn hiskurdo_cursor_next_seq(cursor: CursorNumbers) -> Told
     ensures { result ≡ of_cursor (λ c. seq_option_told (next_seq_of c)) (cursor_named cursor) }
 {
     match given::cursor_of(cursor) {
-        CursorOption::Some(c) => c.next_seq().told(),
-        CursorOption::None => names_nothing(),
+        Some(c) => c.next_seq().told(),
+        None => names_nothing(),
     }
 }
 
@@ -318,8 +316,8 @@ pub fn hiskurdo_cursor_next_effect_id(cursor: CursorNumbers) -> Told
     ensures { result ≡ of_cursor (λ c. effect_id_result_told (next_effect_id_of c)) (cursor_named cursor) }
 {
     match given::cursor_of(cursor) {
-        CursorOption::Some(c) => c.next_effect_id().told(),
-        CursorOption::None => names_nothing(),
+        Some(c) => c.next_effect_id().told(),
+        None => names_nothing(),
     }
 }
 
@@ -327,11 +325,11 @@ pub fn hiskurdo_cursor_advance(cursor: CursorNumbers, record: RecordNumbers) -> 
     ensures { result ≡ cursor_advanced_by cursor (cursor_named cursor) (record_named «record») }
 {
     match given::cursor_of(cursor) {
-        CursorOption::Some(c) => match given::record_of(record) {
-            RecordRefOption::Some(x) => advanced_numbers(c.advance(x)),
-            RecordRefOption::None => cursor_kept(cursor),
+        Some(c) => match given::record_of(record) {
+            Some(x) => advanced_numbers(c.advance(x)),
+            None => cursor_kept(cursor),
         },
-        CursorOption::None => cursor_kept(cursor),
+        None => cursor_kept(cursor),
     }
 }
 
@@ -381,12 +379,12 @@ fn ids_numbers(ids: EffectIdAllocator) -> IdsNumbers
 {
     let next = ids.next;
     match next {
-        SeqOption::Some(seq) => IdsNumbers {
+        Some(seq) => IdsNumbers {
             run: ids.run.0,
             next: seq.0,
             offers: 1,
         },
-        SeqOption::None => IdsNumbers {
+        None => IdsNumbers {
             run: ids.run.0,
             next: 0,
             offers: 0,

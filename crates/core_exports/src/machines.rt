@@ -17,14 +17,13 @@ ghost use Rattle.core_exports.specs.Given.{record_named, machine_named, turn_nam
 ghost use Rattle.core_exports.specs.MachineNumbers.{request_of, pending_from, machine_numbers_for, machine_numbers};
 ghost use Rattle.core_exports.specs.MachineNumbers.{answered, of_machine, machine_kept, machine_advanced_by, called_by, requested_by};
 
-use crate::given::{MachineOption, TimerRequestOption, TurnOption};
+use crate::given::{TurnOption};
 use crate::{CursorNumbers, RecordNumbers, SpecNumbers, given};
 use answer_numbers::machines as told;
 use cursor::PendingEffect;
 use errors::Told;
 use ids::{ActivityKind, EffectId, EffectSeq, RunId};
 use machine::{EffectRequest, Phase, ReplayMachine};
-use records::RecordRefOption;
 
 // An effect as it is asked for.
 #[repr(C)]
@@ -91,8 +90,8 @@ pub fn hiskurdo_machine_run(machine: MachineNumbers) -> Told
     ensures { result ≡ of_machine (λ m. told1 0 (run_of m.cursor).0) (machine_named machine) }
 {
     match given::machine_of(machine) {
-        MachineOption::Some(m) => crate::value(m.run().0),
-        MachineOption::None => crate::names_nothing(),
+        Some(m) => crate::value(m.run().0),
+        None => crate::names_nothing(),
     }
 }
 
@@ -100,8 +99,8 @@ pub fn hiskurdo_machine_position(machine: MachineNumbers) -> Told
     ensures { result ≡ of_machine (λ m. position_told (position_of m.cursor)) (machine_named machine) }
 {
     match given::machine_of(machine) {
-        MachineOption::Some(m) => answer_numbers::position_told(m.position()),
-        MachineOption::None => crate::names_nothing(),
+        Some(m) => answer_numbers::position_told(m.position()),
+        None => crate::names_nothing(),
     }
 }
 
@@ -110,8 +109,8 @@ pub fn hiskurdo_machine_pending(machine: MachineNumbers) -> Told
         of_machine (λ m. pending_effect_option_told (pending_of m.cursor)) (machine_named machine) }
 {
     match given::machine_of(machine) {
-        MachineOption::Some(m) => answer_numbers::pending_effect_told(m.pending()),
-        MachineOption::None => crate::names_nothing(),
+        Some(m) => answer_numbers::pending_effect_told(m.pending()),
+        None => crate::names_nothing(),
     }
 }
 
@@ -120,8 +119,8 @@ pub fn hiskurdo_machine_pending_timer(machine: MachineNumbers) -> Told
         of_machine (λ m. pending_timer_option_told (pending_timer_of m.cursor)) (machine_named machine) }
 {
     match given::machine_of(machine) {
-        MachineOption::Some(m) => answer_numbers::pending_timer_told(m.pending_timer()),
-        MachineOption::None => crate::names_nothing(),
+        Some(m) => answer_numbers::pending_timer_told(m.pending_timer()),
+        None => crate::names_nothing(),
     }
 }
 
@@ -129,8 +128,8 @@ pub fn hiskurdo_machine_failed(machine: MachineNumbers) -> Told
     ensures { result ≡ of_machine (λ m. told1 0 (failed_of m.cursor)) (machine_named machine) }
 {
     match given::machine_of(machine) {
-        MachineOption::Some(m) => crate::value(m.failed()),
-        MachineOption::None => crate::names_nothing(),
+        Some(m) => crate::value(m.failed()),
+        None => crate::names_nothing(),
     }
 }
 
@@ -138,8 +137,8 @@ pub fn hiskurdo_machine_diverged(machine: MachineNumbers) -> Told
     ensures { result ≡ of_machine (λ m. told1 0 (divergence_option_number (Phases.diverged_in m.phase))) (machine_named machine) }
 {
     match given::machine_of(machine) {
-        MachineOption::Some(m) => crate::value(m.diverged().number() as u64),
-        MachineOption::None => crate::names_nothing(),
+        Some(m) => crate::value(m.diverged().number() as u64),
+        None => crate::names_nothing(),
     }
 }
 
@@ -147,15 +146,15 @@ pub fn hiskurdo_machine_advance(machine: MachineNumbers, record: RecordNumbers) 
     ensures { result ≡ machine_advanced_by machine (machine_named machine) (record_named «record») }
 {
     match given::machine_of(machine) {
-        MachineOption::Some(m) => match given::record_of(record) {
-            RecordRefOption::Some(x) => {
+        Some(m) => match given::record_of(record) {
+            Some(x) => {
                 let done = m.advance(x);
                 let answer = done.answer;
                 return answered(done.machine, answer_numbers::step_result_told(answer));
             }
-            RecordRefOption::None => return machine_kept(machine),
+            None => return machine_kept(machine),
         },
-        MachineOption::None => return machine_kept(machine),
+        None => return machine_kept(machine),
     }
 }
 
@@ -218,7 +217,7 @@ pub fn hiskurdo_machine_timer_intent(
         (timer_request_named spec capability) }
 {
     match given::timer_request_of(spec, capability) {
-        TimerRequestOption::Some(request) => match given::turn_of(machine, ended, record) {
+        Some(request) => match given::turn_of(machine, ended, record) {
             TurnOption::Some { machine: m, next } => {
                 let done = m.timer_intent(request, next);
                 let answer = done.answer;
@@ -226,7 +225,7 @@ pub fn hiskurdo_machine_timer_intent(
             }
             TurnOption::None => return machine_kept(machine),
         },
-        TimerRequestOption::None => return machine_kept(machine),
+        None => return machine_kept(machine),
     }
 }
 

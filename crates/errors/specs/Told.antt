@@ -1,5 +1,5 @@
 -- An answer in numbers.
-use Rattle.std.specs.Prelude.{ℕ}
+use Rattle.std.specs.Prelude.{ℕ, Option, Some, None, Result, Ok, Err}
 use Rattle.errors.specs.declared.KernelError.{KernelError}
 use Rattle.errors.specs.declared.Told.{Told}
 use Rattle.errors.specs.Errors.{error_number}
@@ -23,3 +23,17 @@ told0 n = told1 n 0
 -- a refusal has its number and no values
 abbrev pub error_told : KernelError → Told
 error_told x = told0 (error_number x)
+
+-- a call that answers nothing but that it was allowed
+abbrev pub nothing_told : Unit {0} → Told
+nothing_told x = told0 0
+
+-- 0 for none and 1 for some, then the value
+abbrev pub option_told : {A : Type 0} → (ℕ → A → Told) → Option A → Told
+option_told value (Some x) = value 1 x
+option_told value None = told0 0
+
+-- what was answered, or the refusal
+abbrev pub result_told : {A : Type 0} → (A → Told) → Result A KernelError → Told
+result_told answer (Ok x) = answer x
+result_told answer (Err x) = error_told x

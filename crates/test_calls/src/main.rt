@@ -10,7 +10,7 @@ use core_exports::{CursorNumbers, IdsNumbers, RecordNumbers, SpecNumbers, machin
 use cursor::ReplayCursor;
 use errors::Told;
 use ids::RunId;
-use records::{Body, RecordRef, RecordRefOption};
+use records::{Body, RecordRef, };
 use std::io;
 use std::io::Read;
 
@@ -282,8 +282,8 @@ fn advance_lent(rt: &impl Print, old: ReplayCursor, n: RecordNumbers) -> io::Res
         len: n.m as usize,
     };
     match RecordRef::of(n.kind, n.clock, n.a, n.s, n.d, n.m, body) {
-        RecordRefOption::Some(record) => lend(rt, old, record),
-        RecordRefOption::None => {
+        Some(record) => lend(rt, old, record),
+        None => {
             rt.write_all(b"this record names nothing")?;
             Ok(old)
         }

@@ -1,4 +1,8 @@
 -- Laws of the walk: what the machine's rule says of the start and of each marker.
+use Rattle.std.specs.Prelude.{Option, None, Result}
+use Rattle.cursor.specs.declared.Step.{Step}
+use Rattle.errors.specs.declared.KernelError.{KernelError}
+use Rattle.ids.specs.declared.EffectSeq.{EffectSeq}
 use Prim.Native.Nat.{ℕ, ◌+◌, ◌<◌, ◌≤◌}
 use mathlib.Core.Path.{◌≡◌, refl, sym, ap, subst, ◌∙◌}
 use mathlib.Core.Bool.{Bool, true, false}
@@ -8,10 +12,8 @@ use lib.Dec.{T}
 use mathlib.Core.List.{List, [], ◌∷◌}
 use types.Run.{OneOf, miss}
 use denote.Enum.Declared.{tag_of}
-use Rattle.ids.specs.declared.SeqOption.{SeqOption}
 use Rattle.records.specs.declared.RecordRef.{RecordRef}
 use Rattle.cursor.specs.declared.State.{State}
-use Rattle.cursor.specs.declared.StepResult.{StepResult}
 use Rattle.cursor.specs.Advance as Cursor
 use Rattle.cursor.specs.contracts.State as the
 use Rattle.machine.specs.declared.ReplayMachine.{ReplayMachine}
@@ -54,7 +56,7 @@ takes n below = rw (eq-eqb n n refl) (rw (lt-ltb n 4294967295 below))
 
 -- the last number is accepted like any other, and nothing is offered
 pub takes_last : machine_advance_rule (after_markers 4294967295) (marker 4294967295)
-    ≡ record { machine = offering SeqOption.None; answer = marker_accepted 4294967295 }
+    ≡ record { machine = offering None; answer = marker_accepted 4294967295 }
 unfolding machine_advance_rule Cursor.advance_rule
 takes_last = refl
 
@@ -72,7 +74,7 @@ module _ (n : ℕ) {m : ReplayMachine} {x : RecordRef} {a : MachineAdvanced} {ne
   one_on before is =
       one_more n m a.machine before
       (sym (ap (machine_advance_rule m) by) ∙ (sym called ∙
-      ap (λ (s : StepResult). record { machine = a.machine; answer = s }) (ap (λ (y : MachineAdvanced). y.answer) is)))
+      ap (λ (s : Result Step KernelError). record { machine = a.machine; answer = s }) (ap (λ (y : MachineAdvanced). y.answer) is)))
 
 -- the answer of an accepted marker is told to be its own
 pub marks_it : (n : ℕ) {a : MachineAdvanced} {next : ReplayMachine} → a ≡ record { machine = next; answer = marker_accepted n }
@@ -85,7 +87,7 @@ never true e t = absurd (subst T e tt)
 never false e t = absurd (subst T (sym t) tt)
 
 -- an accepted marker leaves the machine replaying
-pub replays : (n : ℕ) {a : MachineAdvanced} {next : SeqOption} → a ≡ record { machine = offering next; answer = marker_accepted n }
+pub replays : (n : ℕ) {a : MachineAdvanced} {next : Option EffectSeq} → a ≡ record { machine = offering next; answer = marker_accepted n }
     → a.machine.cursor.state ≡ State.Replaying
 replays n is = ap (λ (y : MachineAdvanced). y.machine.cursor.state) is
 
@@ -96,7 +98,7 @@ never_else s o e =
     elim (miss tags 1 tt (subst (λ (y : State). OneOf tags (tag_of the.the_type y)) e o)) [ ]
 
 -- the machine made of the allocator and the phase of such a one is that one
-pub same : (n : ℕ) {a : MachineAdvanced} {next : SeqOption} → a ≡ record { machine = offering next; answer = marker_accepted n }
+pub same : (n : ℕ) {a : MachineAdvanced} {next : Option EffectSeq} → a ≡ record { machine = offering next; answer = marker_accepted n }
     → replaying_with a.machine.cursor.ids a.machine.phase ≡ a.machine
 same n is =
     ap (λ (y : MachineAdvanced). replaying_with y.machine.cursor.ids y.machine.phase) is ∙
@@ -121,7 +123,7 @@ at_last n {m} reached inv =
 
 -- one marker more than those to the last
 pub walked_is : {k : Counted} {a : MachineAdvanced} → k ≡ to_last_rule
-    → a ≡ record { machine = offering SeqOption.None; answer = marker_accepted 4294967295 }
+    → a ≡ record { machine = offering None; answer = marker_accepted 4294967295 }
     → ◌≡◌ {A = Walked} (record { before = k.machine; machine = a.machine; markers = k.markers + 1 }) walk_rule
 walked_is {k} {a} counted is =
     ap (λ (y : Counted). record { before = y.machine; machine = a.machine; markers = y.markers + 1 }) counted ∙

@@ -1,10 +1,10 @@
 -- What the walk's own functions ask of one another; a reader of `walk` need not believe it.
-use Rattle.std.specs.Prelude.{ℕ, Bool, false, ◌&&◌, eqb}
+use Rattle.std.specs.Prelude.{ℕ, Bool, false, ◌&&◌, eqb, Result, Ok, Err}
+use Rattle.errors.specs.declared.KernelError.{KernelError}
 use Rattle.ids.specs.declared.EffectIdAllocator.{EffectIdAllocator}
 use Rattle.cursor.specs.declared.State.TheVariants as State
 use Rattle.cursor.specs.declared.Step.{Step}
 use Rattle.cursor.specs.Readers.{cursor_at}
-use Rattle.cursor.specs.declared.StepResult.{StepResult}
 use Rattle.machine.specs.declared.Phase.{Phase}
 use Rattle.machine.specs.declared.ReplayMachine.{ReplayMachine}
 use Rattle.test_numbering.specs.declared.Counted.{Counted}
@@ -31,6 +31,6 @@ marks_in n (Step.RunFailed body) = false
 marks_in n (Step.VersionMarker id gate version) =
     eqb id.run.0 7 && (eqb id.seq.0 n && (eqb gate.0 1 && eqb version 1))
 
-abbrev pub marks_of : ℕ → StepResult → Bool
-marks_of n (StepResult.Ok step) = marks_in n step
-marks_of n (StepResult.Err x) = false
+abbrev pub marks_of : ℕ → Result Step KernelError → Bool
+marks_of n (Ok step) = marks_in n step
+marks_of n (Err x) = false

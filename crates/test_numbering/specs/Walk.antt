@@ -1,10 +1,11 @@
 -- The walk to the end of numbering, from a fresh machine of run 7: 01, "Modules", 1, 4 and 5.
-use Rattle.std.specs.Prelude.{ℕ, ◌+◌, ◌≡◌}
+use Rattle.std.specs.Prelude.{ℕ, ◌+◌, ◌≡◌, Option, Some, None, Result, Ok}
+use Rattle.cursor.specs.declared.Step.{Step}
+use Rattle.errors.specs.declared.KernelError.{KernelError}
+use Rattle.ids.specs.declared.EffectSeq.{EffectSeq}
 use Rattle.ids.specs.declared.RunId.{RunId}
-use Rattle.ids.specs.declared.SeqOption.{SeqOption}
 use Rattle.records.specs.declared.RecordRef.{RecordRef}
 use Rattle.cursor.specs.declared.State.TheVariants as State
-use Rattle.cursor.specs.declared.StepResult.{StepResult}
 use Rattle.cursor.specs.Advance.{accepted_step}
 use Rattle.cursor.specs.Readers.{cursor_at}
 use Rattle.machine.specs.declared.Phase.TheVariants as Phase
@@ -22,8 +23,8 @@ abbrev pub marker : ℕ → RecordRef
 marker n = RecordRef.VersionMarker (record { 0 = n }) (record { 0 = 1 }) 1
 
 -- "Accepted, the answer is the record's fields, its number joined with the run number."
-abbrev pub marker_accepted : ℕ → StepResult
-marker_accepted n = StepResult.Ok (accepted_step walked_run (marker n))
+abbrev pub marker_accepted : ℕ → Result Step KernelError
+marker_accepted n = Ok (accepted_step walked_run (marker n))
 
 -- Where a fresh machine stands after its start and the markers 0 to n - 1, each of them accepted under its own number.
 pub data Marked : ℕ → ReplayMachine → Type 0 where
@@ -32,7 +33,7 @@ pub data Marked : ℕ → ReplayMachine → Type 0 where
       → machine_advance_rule m (marker n) ≡ record { machine = next; answer = marker_accepted n } → Marked (n + 1) next
 
 -- a machine of that run which replays, is settled and offers this
-abbrev pub offering : SeqOption → ReplayMachine
+abbrev pub offering : Option EffectSeq → ReplayMachine
 offering next =
     record {
       cursor = cursor_at (record { run = walked_run; next = next }) State.Replaying;
@@ -41,9 +42,9 @@ offering next =
 
 -- 01, "Modules", 1: "after committing s it offers s + 1"
 abbrev pub after_markers : ℕ → ReplayMachine
-after_markers n = offering (SeqOption.Some (record { 0 = n }))
+after_markers n = offering (Some (record { 0 = n }))
 
 -- ".. or nothing once s is 4,294,967,295"
 abbrev pub walk_rule : Walked
 walk_rule =
-    record { before = after_markers 4294967295; machine = offering SeqOption.None; markers = 4294967296 }
+    record { before = after_markers 4294967295; machine = offering None; markers = 4294967296 }

@@ -7,7 +7,7 @@ ghost use Rattle.std.specs.Prelude.{◌≡◌};
 ghost use Rattle.test_numbering.specs.Walk.{walk_rule, Marked};
 ghost use Rattle.test_numbering.specs.Turns.{to_last_rule, replaying_with, marks_in, marks_of};
 
-use cursor::{ReplayCursor, State, Step, StepResult};
+use cursor::{ReplayCursor, State, Step, };
 use ids::{EffectIdAllocator, EffectSeq, GateId, RunId};
 use machine::{Phase, ReplayMachine};
 use std::io;
@@ -117,12 +117,12 @@ fn replaying(ids: EffectIdAllocator, phase: Phase) -> ReplayMachine
 }
 
 // Whether the answer is the step of the marker with this number, under the walked run.
-fn marks(answer: StepResult, number: u32) -> bool
+fn marks(answer: Result<Step, KernelError>, number: u32) -> bool
     ensures { result ≡ marks_of number answer }
 {
     match answer {
-        StepResult::Ok(step) => return marks_in(step, number),
-        StepResult::Err(_) => return false,
+        Ok(step) => return marks_in(step, number),
+        Err(_) => return false,
     }
 }
 
