@@ -17,7 +17,6 @@ use Rattle.cursor.specs.declared.State.{State}
 use Rattle.cursor.specs.Advance as Cursor
 use Rattle.cursor.specs.contracts.State as the
 use Rattle.machine.specs.declared.ReplayMachine.{ReplayMachine}
-use Rattle.machine.specs.declared.MachineAdvanced.{MachineAdvanced}
 use Rattle.machine.specs.Phases.{fresh_machine, machine_advance_rule}
 use Rattle.test_numbering.specs.declared.Counted.{Counted}
 use Rattle.test_numbering.specs.declared.Walked.{Walked}
@@ -34,17 +33,18 @@ use Rattle.test_numbering.specs.Walk.{
   walk_rule,
 }
 use Rattle.test_numbering.specs.Turns.{to_last_rule, replaying_with, marks_of}
+use Rattle.machine.specs.declared.Answered.{Answered}
 
 begins : (machine_advance_rule (fresh_machine walked_run) start).machine ≡ after_markers 0
 unfolding machine_advance_rule Cursor.advance_rule
 begins = refl
 
 -- a fresh machine, called with the start
-pub begun : {m : ReplayMachine} {x : RecordRef} {a : MachineAdvanced} → m ≡ fresh_machine walked_run → x ≡ start → a ≡ machine_advance_rule m x
+pub begun : {m : ReplayMachine} {x : RecordRef} {a : Answered Step} → m ≡ fresh_machine walked_run → x ≡ start → a ≡ machine_advance_rule m x
     → (a.machine ≡ after_markers 0) × (0 ≤ 4294967295 × Marked 0 a.machine)
 begun {m} {x} {a} is by called =
     let machine : a.machine ≡ (machine_advance_rule (fresh_machine walked_run) start).machine =
-    ap (λ (y : MachineAdvanced). y.machine)
+    ap (λ (y : Answered Step). y.machine)
     (called ∙ (ap (λ (y : ReplayMachine). machine_advance_rule y x) is ∙ ap (machine_advance_rule (fresh_machine walked_run)) by)) in
     (machine ∙ begins, (omega arith, subst (Marked 0) (sym machine) none))
 
@@ -61,7 +61,7 @@ unfolding machine_advance_rule Cursor.advance_rule
 takes_last = refl
 
 -- One call: the machine m offers n, and the record x is the marker n.
-module _ (n : ℕ) {m : ReplayMachine} {x : RecordRef} {a : MachineAdvanced} {next : ReplayMachine} (by : x ≡ marker n)
+module _ (n : ℕ) {m : ReplayMachine} {x : RecordRef} {a : Answered Step} {next : ReplayMachine} (by : x ≡ marker n)
     (called : a ≡ machine_advance_rule m x) where
   pub answered : m ≡ after_markers n
       → machine_advance_rule (after_markers n) (marker n) ≡ record { machine = next; answer = marker_accepted n }
@@ -74,12 +74,12 @@ module _ (n : ℕ) {m : ReplayMachine} {x : RecordRef} {a : MachineAdvanced} {ne
   one_on before is =
       one_more n m a.machine before
       (sym (ap (machine_advance_rule m) by) ∙ (sym called ∙
-      ap (λ (s : Result Step KernelError). record { machine = a.machine; answer = s }) (ap (λ (y : MachineAdvanced). y.answer) is)))
+      ap (λ (s : Result Step KernelError). record { machine = a.machine; answer = s }) (ap (λ (y : Answered Step). y.answer) is)))
 
 -- the answer of an accepted marker is told to be its own
-pub marks_it : (n : ℕ) {a : MachineAdvanced} {next : ReplayMachine} → a ≡ record { machine = next; answer = marker_accepted n }
+pub marks_it : (n : ℕ) {a : Answered Step} {next : ReplayMachine} → a ≡ record { machine = next; answer = marker_accepted n }
     → marks_of n a.answer ≡ true
-marks_it n is = ap (λ (y : MachineAdvanced). marks_of n y.answer) is ∙ rw (eq-eqb n n refl)
+marks_it n is = ap (λ (y : Answered Step). marks_of n y.answer) is ∙ rw (eq-eqb n n refl)
 
 -- so what is left for one that is not cannot be reached
 pub never : {A : Type 0} (b : Bool) → b ≡ false → b ≡ true → A
@@ -87,9 +87,9 @@ never true e t = absurd (subst T e tt)
 never false e t = absurd (subst T (sym t) tt)
 
 -- an accepted marker leaves the machine replaying
-pub replays : (n : ℕ) {a : MachineAdvanced} {next : Option EffectSeq} → a ≡ record { machine = offering next; answer = marker_accepted n }
+pub replays : (n : ℕ) {a : Answered Step} {next : Option EffectSeq} → a ≡ record { machine = offering next; answer = marker_accepted n }
     → a.machine.cursor.state ≡ State.Replaying
-replays n is = ap (λ (y : MachineAdvanced). y.machine.cursor.state) is
+replays n is = ap (λ (y : Answered Step). y.machine.cursor.state) is
 
 -- so what is left for one that does not replay cannot be reached
 pub never_else : {A : Type 0} (s : State) → OneOf (0 ∷ 2 ∷ 3 ∷ 4 ∷ 5 ∷ 6 ∷ []) (tag_of the.the_type s) → s ≡ State.Replaying → A
@@ -98,18 +98,18 @@ never_else s o e =
     elim (miss tags 1 tt (subst (λ (y : State). OneOf tags (tag_of the.the_type y)) e o)) [ ]
 
 -- the machine made of the allocator and the phase of such a one is that one
-pub same : (n : ℕ) {a : MachineAdvanced} {next : Option EffectSeq} → a ≡ record { machine = offering next; answer = marker_accepted n }
+pub same : (n : ℕ) {a : Answered Step} {next : Option EffectSeq} → a ≡ record { machine = offering next; answer = marker_accepted n }
     → replaying_with a.machine.cursor.ids a.machine.phase ≡ a.machine
 same n is =
-    ap (λ (y : MachineAdvanced). replaying_with y.machine.cursor.ids y.machine.phase) is ∙
-    sym (ap (λ (y : MachineAdvanced). y.machine) is)
+    ap (λ (y : Answered Step). replaying_with y.machine.cursor.ids y.machine.phase) is ∙
+    sym (ap (λ (y : Answered Step). y.machine) is)
 
 -- a turn of the loop
-pub turned : (n : ℕ) {next : ReplayMachine} (a : MachineAdvanced) → n < 4294967295
+pub turned : (n : ℕ) {next : ReplayMachine} (a : Answered Step) → n < 4294967295
     → next ≡ a.machine → a ≡ record { machine = after_markers (n + 1); answer = marker_accepted n } → Marked (n + 1) a.machine
     → (next ≡ after_markers (n + 1)) × (n + 1 ≤ 4294967295 × Marked (n + 1) next)
 turned n a below e is marked =
-    (e ∙ ap (λ (y : MachineAdvanced). y.machine) is, (omega arith, subst (Marked (n + 1)) (sym e) marked))
+    (e ∙ ap (λ (y : Answered Step). y.machine) is, (omega arith, subst (Marked (n + 1)) (sym e) marked))
 
 -- the end of the loop
 pub at_last : (n : ℕ) {m : ReplayMachine} → 4294967295 ≤ n → (m ≡ after_markers n) × (n ≤ 4294967295 × Marked n m)
@@ -122,9 +122,9 @@ at_last n {m} reached inv =
     )
 
 -- one marker more than those to the last
-pub walked_is : {k : Counted} {a : MachineAdvanced} → k ≡ to_last_rule
+pub walked_is : {k : Counted} {a : Answered Step} → k ≡ to_last_rule
     → a ≡ record { machine = offering None; answer = marker_accepted 4294967295 }
     → ◌≡◌ {A = Walked} (record { before = k.machine; machine = a.machine; markers = k.markers + 1 }) walk_rule
 walked_is {k} {a} counted is =
     ap (λ (y : Counted). record { before = y.machine; machine = a.machine; markers = y.markers + 1 }) counted ∙
-    ap (λ (y : MachineAdvanced). record { before = after_markers 4294967295; machine = y.machine; markers = 4294967296 }) is
+    ap (λ (y : Answered Step). record { before = after_markers 4294967295; machine = y.machine; markers = 4294967296 }) is
