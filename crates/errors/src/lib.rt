@@ -4,10 +4,9 @@
 // Defends: one refusal, one number, the same in every crate above.
 #![tactic(auto)]
 
-ghost use Rattle.std.specs.Prelude.{◌≡◌, ℕ};
-ghost use Rattle.errors.specs.declared.Told.{Told};
+ghost use Rattle.std.specs.Prelude.{◌≡◌};
 ghost use Rattle.errors.specs.Errors.{error_number};
-ghost use Rattle.errors.specs.Told.{told5, error_told, option_told, result_told, nothing_told};
+ghost use Rattle.errors.specs.Told.{told5, error_told};
 
 // HistoryNearCapacity and Decode are never made here and are left out.
 #[derive(Clone, Copy)]
@@ -34,6 +33,13 @@ impl KernelError {
             KernelError::ClockWentBackwards => 26,
         }
     }
+
+    // A refusal has its number and no values.
+    pub fn told(self) -> Told
+        ensures { result ≡ error_told self }
+    {
+        Told::new(self.number() as u64, 0, 0, 0, 0, 0)
+    }
 }
 
 // An answer in numbers: its own number, then its values in order, 0 where it has fewer than five.
@@ -59,64 +65,6 @@ impl Told {
             c,
             d,
             e,
-        }
-    }
-}
-
-// An answer that is told in numbers.
-pub trait Tell {
-    ghost tells: { Self → Told };
-
-    fn told(self) -> Told
-        ensures { result ≡ tells self };
-}
-
-// A value that an answer carries: it is told behind the answer's own number.
-pub trait TellAs {
-    ghost tells_as: { ℕ → Self → Told };
-
-    fn told_as(self, number: u64) -> Told
-        ensures { result ≡ tells_as number self };
-}
-
-// A refusal has its number and no values.
-impl Tell for KernelError {
-    ghost tells = { error_told };
-
-    fn told(self) -> Told {
-        Told::new(self.number() as u64, 0, 0, 0, 0, 0)
-    }
-}
-
-// Nothing is 0.
-impl Tell for () {
-    ghost tells = { nothing_told };
-
-    fn told(self) -> Told {
-        Told::new(0, 0, 0, 0, 0, 0)
-    }
-}
-
-// None is 0, some is 1 with its value.
-impl<T: TellAs> Tell for Option<T> {
-    ghost tells = { option_told T.tells_as };
-
-    fn told(self) -> Told {
-        match self {
-            Some(value) => value.told_as(1),
-            None => ().told(),
-        }
-    }
-}
-
-// What a call answers, or its refusal.
-impl<T: Tell> Tell for Result<T, KernelError> {
-    ghost tells = { result_told T.tells };
-
-    fn told(self) -> Told {
-        match self {
-            Ok(answer) => answer.told(),
-            Err(error) => error.told(),
         }
     }
 }
