@@ -1,3 +1,4 @@
+pub mod Read
 pub mod Bytes
 pub mod Checks
 pub mod Bounds

@@ -1,3 +1,4 @@
+pub mod Read
 pub mod Fields
 pub mod Entries
 pub mod Reading

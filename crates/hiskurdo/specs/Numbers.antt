@@ -1,16 +1,16 @@
 -- The answers of the files' reader in numbers, as Rust or C sees them.
+use Rattle.std.specs.Prelude.{Option, Some, None}
 use Rattle.errors.specs.declared.Told.{Told}
 use Rattle.records.specs.declared.Body.{Body}
 use Rattle.records.specs.declared.RecordRef.{RecordRef}
 use Rattle.files.specs.declared.Entry.{Entry}
 use Rattle.files.specs.declared.PlanStep.{PlanStep}
 use Rattle.files.specs.declared.StepRequest.TheVariants as StepRequest
-use Rattle.files.specs.declared.RecordOption.{RecordOption}
-use Rattle.files.specs.declared.StepOption.{StepOption}
 use Rattle.files.specs.declared.Walk.{Walk}
 use Rattle.files.specs.Encoding.{entry_with, record_entry, step_entry}
 use Rattle.hiskurdo.specs.declared.ReadNumbers.{ReadNumbers}
 use Rattle.hiskurdo.specs.declared.EntryNumbers.{EntryNumbers}
+use Rattle.files.specs.declared.Walked.{Walked}
 
 -- the readers' answers: number, place, what the header says, count
 abbrev pub read_numbers : Told → ReadNumbers
@@ -55,10 +55,10 @@ entry_numbers e body next =
 abbrev pub nothing : Walk → EntryNumbers
 nothing w = entry_numbers (entry_with 0 0 0 0 0 0) no_body w
 
-abbrev pub record_numbers : Walk → RecordOption → EntryNumbers
-record_numbers w (RecordOption.Some x next) = entry_numbers (record_entry x) (record_body x) next
-record_numbers w RecordOption.None = nothing w
+abbrev pub record_numbers : Walk → Option (Walked RecordRef) → EntryNumbers
+record_numbers w (Some found) = entry_numbers (record_entry found.item) (record_body found.item) found.next
+record_numbers w None = nothing w
 
-abbrev pub step_numbers : Walk → StepOption → EntryNumbers
-step_numbers w (StepOption.Some x next) = entry_numbers (step_entry x) (step_body x) next
-step_numbers w StepOption.None = nothing w
+abbrev pub step_numbers : Walk → Option (Walked PlanStep) → EntryNumbers
+step_numbers w (Some found) = entry_numbers (step_entry found.item) (step_body found.item) found.next
+step_numbers w None = nothing w

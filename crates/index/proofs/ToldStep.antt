@@ -1,4 +1,5 @@
 -- Where the verdict is 45, the words show the step at which the run was completed, as the promise of demand 3 says it (`TooSoon`).
+use Rattle.std.specs.Prelude.{Result, Ok, Err}
 use Prim.Native.Nat.{ℕ}
 use mathlib.Core.Path.{◌≡◌, refl, sym, subst}
 use mathlib.Core.List.{List}
@@ -6,7 +7,6 @@ use lib.Dec.{T}
 use Rattle.clocks.specs.declared.ClockCapability.{ClockCapability}
 use Rattle.records.specs.Records.{among}
 use Rattle.files.specs.declared.Format.TheVariants as Format
-use Rattle.files.specs.declared.FileRead.{FileRead}
 use Rattle.files.specs.Reading.{reading_numbers, read_rule}
 use Rattle.files.specs.Contents.{records_of, steps_of}
 use Rattle.files.proofs.Laws.{whole, refused_reading_lem}
@@ -17,6 +17,8 @@ use Rattle.lines.proofs.ShownStep.{shown_step}
 use Rattle.resume.specs.EndResult.{KeptBy}
 use Rattle.resume.specs.Verdict.{verdict_rule}
 use Rattle.resume.proofs.Keeps.{keeps}
+use Rattle.files.specs.declared.FileHead.{FileHead}
+use Rattle.files.specs.declared.Refusal.{Refusal}
 
 -- the run was completed at some step, and that step is shown
 abbrev pub ToldStep : List ℕ → List ℕ → ℕ → ℕ → ℕ → Type 0
@@ -32,11 +34,11 @@ not_read : {n place a b c : ℕ} → Answer.No 45 place a b ≡ Answer.No n c 0 
 not_read e listed = subst (λ (m : ℕ). T (among reading_numbers m)) (sym (same_number e)) listed
 
 module _ (j p : List ℕ) (place divergence calls : ℕ) where
-  by_readings : (a b : FileRead) → read_rule Format.Journal j ≡ a → read_rule Format.Plan p ≡ b →
+  by_readings : (a b : Result FileHead Refusal) → read_rule Format.Journal j ≡ a → read_rule Format.Plan p ≡ b →
       KeptBy a b j p (Answer.No 45 place divergence calls) → ToldStep j p place divergence calls
-  by_readings (FileRead.Refused n at) b ea eb k = absurd (not_read k (refused_reading_lem Format.Journal j ea))
-  by_readings (FileRead.Readable run count) (FileRead.Refused n at) ea eb k = absurd (not_read k (refused_reading_lem Format.Plan p eb))
-  by_readings (FileRead.Readable run count) (FileRead.Readable board steps) ea eb k =
+  by_readings (Err refusal) b ea eb k = absurd (not_read k (refused_reading_lem Format.Journal j ea))
+  by_readings (Ok journal) (Err refusal) ea eb k = absurd (not_read k (refused_reading_lem Format.Plan p eb))
+  by_readings (Ok journal) (Ok plan) ea eb k =
       let soon = k.1.1.counts.too_soon.0 refl in
       (k.0, (soon.0, (soon.1, shown_step j p (whole Format.Journal j ea).0 soon.1 divergence calls)))
 

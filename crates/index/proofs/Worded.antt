@@ -1,4 +1,5 @@
 -- Every answer that the verdict gives has a row of its own in the table of words: no file leads to the words of no row.
+use Rattle.std.specs.Prelude.{Result, Ok, Err}
 use Prim.Native.Nat.{ℕ}
 use mathlib.Core.Path.{◌≡◌, refl, sym, subst}
 use mathlib.Core.Bool.{Bool, true, false, cond, ◌||◌}
@@ -9,7 +10,6 @@ use Rattle.clocks.specs.declared.ClockCapability.{ClockCapability}
 use Rattle.records.specs.declared.RecordRef.{RecordRef}
 use Rattle.records.specs.Records.{among, opener_kinds}
 use Rattle.files.specs.declared.Format.TheVariants as Format
-use Rattle.files.specs.declared.FileRead.{FileRead}
 use Rattle.files.specs.declared.PlanStep.{PlanStep}
 use Rattle.files.specs.Reading.{reading_numbers, read_rule, as_journal, as_plan, journal_rule, plan_rule}
 use Rattle.files.proofs.Laws.{refused_reading_lem}
@@ -23,6 +23,9 @@ use Rattle.lines.specs.Words.{Row, table, is_of, ending_detail, detail_of}
 use Rattle.resume.specs.EndResult.{KeptBy}
 use Rattle.resume.specs.Verdict.{verdict_by, verdict_rule}
 use Rattle.resume.proofs.Keeps.{keeps}
+use Rattle.files.specs.declared.FileHead.{FileHead}
+use Rattle.files.specs.declared.Refusal.{Refusal}
+use Rattle.files.specs.Read.{file_head}
 
 abbrev has_row : List Row → ℕ → ℕ → Bool
 has_row [] number detail = false
@@ -97,12 +100,12 @@ module _ (j p : List ℕ) (kind : ℕ) where
   read : (n place : ℕ) → T (among reading_numbers n) → T (has_row table n (detail_of n place 0 kind))
   read n place listed = one_of (λ (m : ℕ). has_row table m (detail_of m place 0 kind)) reading_numbers (read_worded kind place) n listed
 
-  by_readings : (a b : FileRead) → read_rule Format.Journal j ≡ a → read_rule Format.Plan p ≡ b →
+  by_readings : (a b : Result FileHead Refusal) → read_rule Format.Journal j ≡ a → read_rule Format.Plan p ≡ b →
       KeptBy a b j p (verdict_by (as_journal a) (as_plan b) j p) → Worded (verdict_by (as_journal a) (as_plan b) j p) kind
-  by_readings (FileRead.Refused n place) b ea eb k = read n place (refused_reading_lem Format.Journal j ea)
-  by_readings (FileRead.Readable run count) (FileRead.Refused n place) ea eb k = read n place (refused_reading_lem Format.Plan p eb)
-  by_readings (FileRead.Readable run count) (FileRead.Readable board steps) ea eb k =
-      kept_worded (verdict_by (as_journal (FileRead.Readable run count)) (as_plan (FileRead.Readable board steps)) j p) kind k.1.1
+  by_readings (Err refusal) b ea eb k = read refusal.number refusal.place (refused_reading_lem Format.Journal j ea)
+  by_readings (Ok journal) (Err refusal) ea eb k = read refusal.number refusal.place (refused_reading_lem Format.Plan p eb)
+  by_readings (Ok journal) (Ok plan) ea eb k =
+      kept_worded (verdict_by (as_journal (file_head journal.head journal.count)) (as_plan (file_head plan.head plan.count)) j p) kind k.1.1
 
   pub worded : Worded (verdict_rule j p) kind
   unfolding verdict_rule journal_rule plan_rule

@@ -1,21 +1,22 @@
 -- What the columns of a row say, each in bytes: by what reading a file says, or by the verdict's answer. A column is empty where a
 -- file does not say it: one that cannot be read says nothing.
-use Rattle.std.specs.Prelude.{ℕ, cond, List, [], ◌++◌, eqb}
+use Rattle.std.specs.Prelude.{ℕ, cond, List, [], ◌++◌, eqb, Result, Ok, Err}
 use Rattle.clocks.specs.declared.ClockCapability.{ClockCapability}
 use Rattle.endings.specs.Endings.{ascii, ending_word, still_to_run}
 use Rattle.files.specs.declared.Entry.{Entry}
-use Rattle.files.specs.declared.JournalRead.{JournalRead}
-use Rattle.files.specs.declared.PlanRead.{PlanRead}
 use Rattle.files.specs.Kinds.{entry_in}
 use Rattle.files.specs.Reading.{journal_rule, plan_rule}
 use Rattle.histories.specs.declared.Answer.{Answer}
 use Rattle.lines.specs.Line.{decimal}
 use Rattle.lines.specs.Words.{filled}
+use Rattle.files.specs.declared.JournalHead.{JournalHead}
+use Rattle.files.specs.declared.PlanHead.{PlanHead}
+use Rattle.files.specs.declared.Refusal.{Refusal}
 
 -- the run number, as the journal's header has it
-abbrev pub run_read : JournalRead → List ℕ
-run_read (JournalRead.Refused number place) = []
-run_read (JournalRead.Readable run count) = decimal run.0
+abbrev pub run_read : Result JournalHead Refusal → List ℕ
+run_read (Err refusal) = []
+run_read (Ok journal) = decimal journal.run.0
 
 unfoldable pub run_column : List ℕ → List ℕ
 run_column journal = run_read (journal_rule journal)
@@ -31,9 +32,9 @@ step_column (Answer.Ok ending stop records calls failed) = cond (still_to_run en
 step_column (Answer.No number place divergence calls) = []
 
 -- the steps in the plan
-abbrev pub steps_read : PlanRead → List ℕ
-steps_read (PlanRead.Refused number place) = []
-steps_read (PlanRead.Readable capability count) = decimal count
+abbrev pub steps_read : Result PlanHead Refusal → List ℕ
+steps_read (Err refusal) = []
+steps_read (Ok plan) = decimal plan.count
 
 unfoldable pub steps_column : List ℕ → List ℕ
 steps_column plan = steps_read (plan_rule plan)
@@ -65,9 +66,9 @@ abbrev pub board_word : ClockCapability → List ℕ
 board_word ClockCapability.BootOnly = ascii "boot-only"
 board_word ClockCapability.Persistent = ascii "persistent"
 
-abbrev pub board_read : PlanRead → List ℕ
-board_read (PlanRead.Refused number place) = []
-board_read (PlanRead.Readable capability count) = board_word capability
+abbrev pub board_read : Result PlanHead Refusal → List ℕ
+board_read (Err refusal) = []
+board_read (Ok plan) = board_word plan.capability
 
 unfoldable pub board_column : List ℕ → List ℕ
 board_column plan = board_read (plan_rule plan)
