@@ -1,6 +1,6 @@
 -- A text in a lent buffer, and the version in numbers, as Rust or C sees them.
 use Rattle.std.specs.Prelude.{ℕ, ◌+◌, ◌*◌, ◌≤◌, cond, List, [], ◌∷◌, ◌++◌, leb, length, drop}
-use Rattle.histories.specs.declared.Answer.{Answer}
+use Rattle.histories.specs.Answers.{Answer}
 use Rattle.lines.specs.Line.{decimal}
 use Rattle.endings.specs.Endings.{ascii}
 use Rattle.lines.specs.Words.{words_of}

@@ -40,13 +40,13 @@ pub fn hiskurdo_verdict(journal: &[u8], plan: &[u8]) -> VerdictNumbers
     ensures { result ≡ verdict_numbers (verdict_rule journal.now plan.now) }
 {
     match resume::verdict(journal, plan) {
-        Answer::Ok {
+        Ok(Accepted {
             ending,
             stop,
             records,
             calls,
             failed,
-        } => VerdictNumbers {
+        }) => VerdictNumbers {
             refused: 0,
             ending: ending.number(),
             stop,
@@ -57,12 +57,12 @@ pub fn hiskurdo_verdict(journal: &[u8], plan: &[u8]) -> VerdictNumbers
             calls,
             failed,
         },
-        Answer::No {
+        Err(Refused {
             number,
             place,
             divergence,
             calls,
-        } => VerdictNumbers {
+        }) => VerdictNumbers {
             refused: 1,
             ending: 0,
             stop: 0,
@@ -91,10 +91,10 @@ pub fn hiskurdo_handover(journal: &[u8], plan: &[u8], boundary: u64) -> Handover
     ensures { result ≡ handover_numbers (handed_told (handed_rule journal.now plan.now boundary)) }
 {
     match handing::handover_case(journal, plan, boundary) {
-        Handed::Completed(body) => given(1, body),
-        Handed::Failed(body) => given(2, body),
-        Handed::Input(body) => given(3, body),
-        Handed::Refused(number) => HandoverNumbers {
+        Ok(Handed::Completed(body)) => given(1, body),
+        Ok(Handed::Failed(body)) => given(2, body),
+        Ok(Handed::Input(body)) => given(3, body),
+        Err(number) => HandoverNumbers {
             number,
             what: 0,
             start: 0,

@@ -6,7 +6,7 @@ use native.Mathlib.Numerals.{add-one}
 use native.Mathlib.Omega.{arith}
 use lib.ListN.{length, take, get_or, set, length-set}
 use lib.Seq.{paste, paste-zero, paste-suc, take-paste, take-length, take-suc-set}
-use Rattle.histories.specs.declared.Answer.{Answer}
+use Rattle.histories.specs.Answers.{Answer}
 use Rattle.lines.specs.declared.Line.{Line}
 use Rattle.lines.specs.declared.words.Telling.{Telling}
 use Rattle.lines.specs.Line.{Holds}

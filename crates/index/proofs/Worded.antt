@@ -13,7 +13,7 @@ use Rattle.files.specs.declared.Format.TheVariants as Format
 use Rattle.files.specs.declared.PlanStep.{PlanStep}
 use Rattle.files.specs.Reading.{reading_numbers, read_rule, as_journal, as_plan, journal_rule, plan_rule}
 use Rattle.files.proofs.Laws.{refused_reading_lem}
-use Rattle.histories.specs.declared.Answer.{Answer}
+use Rattle.histories.specs.Answers.{Answer}
 use Rattle.endings.specs.declared.Ending.{Ending}
 use Rattle.histories.specs.Checklist.{refusal_numbers, divergences_of}
 use Rattle.histories.specs.Promise.{Promise}
@@ -32,8 +32,8 @@ has_row [] number detail = false
 has_row (r ∷ rows) number detail = is_of number detail r || has_row rows number detail
 
 abbrev pub Worded : Answer → ℕ → Type 0
-Worded (Answer.Ok ending stop records calls failed) kind = T (has_row table 0 (ending_detail ending kind))
-Worded (Answer.No number place divergence calls) kind = T (has_row table number (detail_of number place divergence kind))
+Worded (Ok accepted) kind = T (has_row table 0 (ending_detail accepted.ending kind))
+Worded (Err refused) kind = T (has_row table refused.number (detail_of refused.number refused.place refused.divergence kind))
 
 ending_worded : (ending : Ending) (kind : ℕ) → T (has_row table 0 (ending_detail ending kind))
 ending_worded Ending.Unstarted kind = tt
@@ -91,10 +91,10 @@ replayed kind place n d listed of = by_number (eqb n 24) (eqb n 31) refl refl (o
 
 kept_worded : {capability : ClockCapability} {plan : List PlanStep} {records : List RecordRef} (answer : Answer) (kind : ℕ) →
     Promise capability plan records answer → Worded answer kind
-kept_worded (Answer.Ok ending stop records calls failed) kind kept = ending_worded ending kind
-kept_worded (Answer.No number place divergence calls) kind kept =
+kept_worded (Ok accepted) kind kept = ending_worded accepted.ending kind
+kept_worded (Err refused) kind kept =
     let listed = promise_listed kept in
-    replayed kind place number divergence listed.0 listed.1
+    replayed kind refused.place refused.number refused.divergence listed.0 listed.1
 
 module _ (j p : List ℕ) (kind : ℕ) where
   read : (n place : ℕ) → T (among reading_numbers n) → T (has_row table n (detail_of n place 0 kind))

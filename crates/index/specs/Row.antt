@@ -1,6 +1,6 @@
 -- The row of a run folder: its name, whether it may be resumed and at which step, the verdict's line, and plain words.
 use Rattle.std.specs.Prelude.{ℕ, ◌-◌, List, [], ◌∷◌, ◌++◌, length, take}
-use Rattle.histories.specs.declared.Answer.{Answer}
+use Rattle.histories.specs.Answers.{Answer}
 use Rattle.lines.specs.declared.words.Telling.{Telling}
 use Rattle.lines.specs.Line.{line_of}
 use Rattle.lines.specs.Words.{words_of, resume_of}

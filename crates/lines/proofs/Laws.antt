@@ -1,4 +1,5 @@
 -- Published laws: what a line's first bytes are, and that neither the verdict's line nor its words are ever empty.
+use Rattle.std.specs.Prelude.{Ok, Err}
 use Prim.Native.Nat.{ℕ, ◌-◌, ◌≤◌}
 use mathlib.Core.Path.{◌≡◌, refl, sym, ap, ◌∙◌}
 use mathlib.Core.Bool.{Bool, true, false, cond, not, ◌&&◌, ◌||◌}
@@ -11,7 +12,7 @@ use lib.Seq.{take-append-le}
 use Rattle.files.proofs.Checks.{both}
 use Rattle.files.specs.declared.Entry.{Entry}
 use Rattle.files.specs.Kinds.{entry_in, kind_in}
-use Rattle.histories.specs.declared.Answer.{Answer}
+use Rattle.histories.specs.Answers.{Answer}
 use Rattle.lines.specs.declared.Line.{Line}
 use Rattle.lines.specs.declared.words.Telling.{Telling}
 use Rattle.lines.specs.Line.{line_of, Holds}
@@ -31,8 +32,8 @@ held_front line text n h le =
 
 pub line_some : (answer : Answer) → 1 ≤ length (line_of answer)
 unfolding line_of
-line_some (Answer.Ok ending stop records calls failed) = omega arith
-line_some (Answer.No number place divergence calls) = omega arith
+line_some (Ok accepted) = omega arith
+line_some (Err refused) = omega arith
 
 -- words that begin with a byte of their own
 abbrev begun : List ℕ → Bool
@@ -63,13 +64,13 @@ table_some n number detail = filled_some n (ascii (words_in table number detail)
 
 pub words_some : (answer : Answer) (telling : Telling) → 1 ≤ length (words_of answer telling)
 unfolding words_of
-words_some (Answer.Ok ending stop records calls failed) telling =
-    let detail = ending_detail ending telling.kind in
+words_some (Ok accepted) telling =
+    let detail = ending_detail accepted.ending telling.kind in
     let words = filled telling.number (ascii (words_in table 0 detail)) in
-    let told = cond (tells_failed ending failed) (failed_words failed) [] in
+    let told = cond (tells_failed accepted.ending accepted.failed) (failed_words accepted.failed) [] in
     omega (arith, table_some telling.number 0 detail, length-append words told)
-words_some (Answer.No number place divergence calls) telling =
-    table_some telling.number number (detail_of number place divergence telling.kind)
+words_some (Err refused) telling =
+    table_some telling.number refused.number (detail_of refused.number refused.place refused.divergence telling.kind)
 
 -- whether the failed steps are told, by the ending's number
 pub tells_by : (ending : Ending) (failed n : ℕ) (b : Bool) → n ≡ ending_number ending → (eqb n 2 || not (eqb failed 0)) ≡ b →

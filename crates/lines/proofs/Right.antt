@@ -6,10 +6,10 @@ use mathlib.Core.Logic.{by_cases}
 use native.Mathlib.Decide.{dec_lt}
 use native.Mathlib.Omega.{arith}
 use lib.ListN.{get_or}
-use Rattle.histories.specs.declared.Answer.TheVariants as Answer
 use Rattle.endings.specs.declared.Ending.TheVariants as Ending
 use Rattle.lines.specs.Line.{decimal, line_of}
 use Rattle.lines.proofs.Decimal.{decimal_last, decimal_more}
+use Rattle.histories.specs.Answers.{answer_no, answer_ok}
 
 -- what decimal digits after a number say
 abbrev value : ℕ → List ℕ → ℕ
@@ -49,12 +49,12 @@ pub decimal_0 : decimal 0 ≡ 48 ∷ []
 decimal_0 = decimal_last 0 (omega arith)
 
 -- 02: "01's printed example becomes `ok open 0 2 3 0`"
-pub output : line_of (Answer.Ok Ending.Open 0 2 3 0) ≡
+pub output : line_of (answer_ok Ending.Open 0 2 3 0) ≡
     111 ∷ 107 ∷ 32 ∷ 111 ∷ 112 ∷ 101 ∷ 110 ∷ 32 ∷ 48 ∷ 32 ∷ 50 ∷ 32 ∷ 51 ∷ 32 ∷ 48 ∷ 10 ∷ []
 unfolding line_of decimal
 output = refl
 
 -- `no 22 10 1 11`
-pub no_output : line_of (Answer.No 22 10 1 11) ≡ 110 ∷ 111 ∷ 32 ∷ 50 ∷ 50 ∷ 32 ∷ 49 ∷ 48 ∷ 32 ∷ 49 ∷ 32 ∷ 49 ∷ 49 ∷ 10 ∷ []
+pub no_output : line_of (answer_no 22 10 1 11) ≡ 110 ∷ 111 ∷ 32 ∷ 50 ∷ 50 ∷ 32 ∷ 49 ∷ 48 ∷ 32 ∷ 49 ∷ 32 ∷ 49 ∷ 49 ∷ 10 ∷ []
 unfolding line_of decimal
 no_output = refl

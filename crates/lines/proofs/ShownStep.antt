@@ -21,7 +21,6 @@ use Rattle.files.specs.Kinds.{entry_in}
 use Rattle.files.specs.Standing.{Whole}
 use Rattle.files.proofs.Numbered.{record_at, step_at}
 use Rattle.endings.specs.declared.Ending.TheVariants as Ending
-use Rattle.histories.specs.declared.Answer.TheVariants as Answer
 use Rattle.histories.specs.Histories.{Starts, Boundaries}
 use Rattle.histories.specs.Histories as H
 use Rattle.histories.specs.Promise.{AtGate, TooSoon}
@@ -29,6 +28,7 @@ use Rattle.histories.specs.Promise as P
 use Rattle.histories.specs.StepAfter.{step_after}
 use Rattle.histories.proofs.Soon.{too_soon_step, too_soon_within}
 use Rattle.lines.specs.Telling.{entry_before, step_next, telling_of}
+use Rattle.histories.specs.Answers.{answer_no, answer_ok}
 
 -- a run that was completed at step 0 has its start alone before
 no_boundary : {capability : ClockCapability} {i : ℕ} {rs : List RecordRef} → Boundaries capability i [] rs → rs ≡ []
@@ -67,7 +67,7 @@ entry_before_lem journal place n e = rw (ne_eqb place 0 (λ (z : place ≡ 0). o
 
 pub shown_step : (journal plan : List ℕ) → Whole Format.Journal journal → {capability : ClockCapability} {steps : List PlanStep} {p k : ℕ} →
     TooSoon capability steps (records_of journal) p k → (divergence calls : ℕ) →
-    (telling_of journal plan (Answer.No 45 p divergence calls)).number ≡ k
+    (telling_of journal plan (answer_no 45 p divergence calls)).number ≡ k
 shown_step journal plan whole {capability} {steps} {p} {k} soon divergence calls =
     let records = records_of journal in
     let last = too_soon_step soon in
@@ -83,7 +83,7 @@ shown_step journal plan whole {capability} {steps} {p} {k} soon divergence calls
 
 pub shown_gate : (journal plan : List ℕ) → Whole Format.Plan plan → {capability : ClockCapability} (k : ℕ) {version : ℕ} {g : GateId}
     {records : List RecordRef} → AtGate capability (steps_of plan) k g version records → (count calls failed : ℕ) →
-    (telling_of journal plan (Answer.Ok Ending.Due k count calls failed)).number ≡ g.0
+    (telling_of journal plan (answer_ok Ending.Due k count calls failed)).number ≡ g.0
 shown_gate journal plan whole k {version} {g} (P.at_gate {later = later} begun b is) count calls failed =
     let steps = steps_of plan in
     let split : steps ≡ take k steps ++ (PlanStep.Gate g version ∷ later) =

@@ -6,7 +6,7 @@ use Rattle.endings.specs.Endings.{ascii, ending_word, still_to_run}
 use Rattle.files.specs.declared.Entry.{Entry}
 use Rattle.files.specs.Kinds.{entry_in}
 use Rattle.files.specs.Reading.{journal_rule, plan_rule}
-use Rattle.histories.specs.declared.Answer.{Answer}
+use Rattle.histories.specs.Answers.{Answer}
 use Rattle.lines.specs.Line.{decimal}
 use Rattle.lines.specs.Words.{filled}
 use Rattle.files.specs.declared.JournalHead.{JournalHead}
@@ -23,13 +23,13 @@ run_column journal = run_read (journal_rule journal)
 
 -- one word: the ending, or that the run is refused
 unfoldable pub state_column : Answer → List ℕ
-state_column (Answer.Ok ending stop records calls failed) = ending_word ending
-state_column (Answer.No number place divergence calls) = ascii "refused"
+state_column (Ok accepted) = ending_word accepted.ending
+state_column (Err refused) = ascii "refused"
 
 -- the step that is to run
 unfoldable pub step_column : Answer → List ℕ
-step_column (Answer.Ok ending stop records calls failed) = cond (still_to_run ending) (decimal stop) []
-step_column (Answer.No number place divergence calls) = []
+step_column (Ok accepted) = cond (still_to_run accepted.ending) (decimal accepted.stop) []
+step_column (Err refused) = []
 
 -- the steps in the plan
 abbrev pub steps_read : Result PlanHead Refusal → List ℕ
@@ -53,13 +53,13 @@ entry_text e =
 
 -- what the step is that is to run: entry k of a readable plan is its step k (`what_step`)
 unfoldable pub what_column : List ℕ → Answer → List ℕ
-what_column plan (Answer.Ok ending stop records calls failed) = cond (still_to_run ending) (entry_text (entry_in plan stop)) []
-what_column plan (Answer.No number place divergence calls) = []
+what_column plan (Ok accepted) = cond (still_to_run accepted.ending) (entry_text (entry_in plan accepted.stop)) []
+what_column plan (Err refused) = []
 
 -- the failed steps
 unfoldable pub failed_column : Answer → List ℕ
-failed_column (Answer.Ok ending stop records calls failed) = decimal failed
-failed_column (Answer.No number place divergence calls) = []
+failed_column (Ok accepted) = decimal accepted.failed
+failed_column (Err refused) = []
 
 -- the board, by the capability that the plan names
 abbrev pub board_word : ClockCapability → List ℕ

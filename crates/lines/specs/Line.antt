@@ -1,6 +1,6 @@
 -- The verdict's line in bytes: 01, "`verdict` .. prints one line".
-use Rattle.std.specs.Prelude.{ℕ, zero, suc, ◌+◌, ◌-◌, ◌/◌, ◌%◌, ◌≤◌, ◌≡◌, cond, List, [], ◌∷◌, ◌++◌, ltb, length, replicate, take}
-use Rattle.histories.specs.declared.Answer.{Answer}
+use Rattle.std.specs.Prelude.{ℕ, zero, suc, ◌+◌, ◌-◌, ◌/◌, ◌%◌, ◌≤◌, ◌≡◌, cond, List, [], ◌∷◌, ◌++◌, ltb, length, replicate, take, Ok, Err}
+use Rattle.histories.specs.Answers.{Answer}
 use Rattle.endings.specs.Endings.{ascii, ending_word}
 use Rattle.lines.specs.declared.Line.{Line}
 
@@ -21,10 +21,10 @@ spaced (field ∷ (next ∷ fields)) = field ++ (32 ∷ spaced (next ∷ fields)
 
 -- "`ok`, ending, stop, records, calls; or `no`, number, place, divergence, calls"; 02: "an `ok` line ends with" the failed steps
 unfoldable pub line_of : Answer → List ℕ
-line_of (Answer.Ok ending stop records calls failed) =
-    spaced (ascii "ok" ∷ ending_word ending ∷ decimal stop ∷ decimal records ∷ decimal calls ∷ decimal failed ∷ [])
-line_of (Answer.No number place divergence calls) =
-    spaced (ascii "no" ∷ decimal number ∷ decimal place ∷ decimal divergence ∷ decimal calls ∷ [])
+line_of (Ok accepted) =
+    spaced (ascii "ok" ∷ ending_word accepted.ending ∷ decimal accepted.stop ∷ decimal accepted.records ∷ decimal accepted.calls ∷ decimal accepted.failed ∷ [])
+line_of (Err refused) =
+    spaced (ascii "no" ∷ decimal refused.number ∷ decimal refused.place ∷ decimal refused.divergence ∷ decimal refused.calls ∷ [])
 
 -- a line that holds these bytes: they come first, and zeros after them
 abbrev pub holding : List ℕ → Line

@@ -1,10 +1,10 @@
 -- What `words_of` asks for beside the answer: the kind of the one entry that tells apart the words, and the number that stands for `#`.
-use Rattle.std.specs.Prelude.{ℕ, ◌+◌, ◌-◌, cond, ◌&&◌, List, eqb}
+use Rattle.std.specs.Prelude.{ℕ, ◌+◌, ◌-◌, cond, ◌&&◌, List, eqb, Ok, Err}
 use Rattle.endings.specs.declared.Ending.{Ending}
 use Rattle.endings.specs.Endings.{ending_number}
 use Rattle.files.specs.declared.Entry.{Entry}
 use Rattle.files.specs.Kinds.{no_entry, entry_in, kind_in}
-use Rattle.histories.specs.declared.Answer.{Answer}
+use Rattle.histories.specs.Answers.{Answer}
 use Rattle.lines.specs.declared.words.Telling.{Telling}
 
 -- the record before a place; before the first there is none
@@ -38,7 +38,7 @@ abbrev pub refused_shown : List ℕ → ℕ → ℕ → ℕ
 refused_shown journal number place = cond (eqb number 45) (step_next (entry_before journal place)) place
 
 abbrev pub telling_of : List ℕ → List ℕ → Answer → Telling
-telling_of journal plan (Answer.Ok ending stop records calls failed) =
-    record { kind = ending_kind journal plan ending stop records; number = ending_shown plan ending stop }
-telling_of journal plan (Answer.No number place divergence calls) =
-    record { kind = refused_kind journal number place; number = refused_shown journal number place }
+telling_of journal plan (Ok accepted) =
+    record { kind = ending_kind journal plan accepted.ending accepted.stop accepted.records; number = ending_shown plan accepted.ending accepted.stop }
+telling_of journal plan (Err refused) =
+    record { kind = refused_kind journal refused.number refused.place; number = refused_shown journal refused.number refused.place }

@@ -1,8 +1,8 @@
 -- What an answer means in plain words: one table, with a row for each ending and each refusal that files can reach.
-use Rattle.std.specs.Prelude.{ℕ, Bool, cond, not, ◌&&◌, ◌||◌, List, [], ◌∷◌, ◌++◌, eqb}
+use Rattle.std.specs.Prelude.{ℕ, Bool, cond, not, ◌&&◌, ◌||◌, List, [], ◌∷◌, ◌++◌, eqb, Ok, Err}
 use Prim.Native.String.{String}
 use Rattle.records.specs.Records.{among, opener_kinds}
-use Rattle.histories.specs.declared.Answer.{Answer}
+use Rattle.histories.specs.Answers.{Answer}
 use Rattle.endings.specs.declared.Ending.{Ending}
 use Rattle.endings.specs.Endings.{ascii, ending_number, still_to_run}
 use Rattle.lines.specs.Line.{decimal}
@@ -111,14 +111,14 @@ ending_words ending n kind failed =
 
 -- what to do at which step, or which line of the checklist failed and where
 unfoldable pub words_of : Answer → Telling → List ℕ
-words_of (Answer.Ok ending stop records calls failed) telling = ending_words ending telling.number telling.kind failed
-words_of (Answer.No number place divergence calls) telling =
-    filled telling.number (ascii (words_in table number (detail_of number place divergence telling.kind)))
+words_of (Ok accepted) telling = ending_words accepted.ending telling.number telling.kind accepted.failed
+words_of (Err refused) telling =
+    filled telling.number (ascii (words_in table refused.number (detail_of refused.number refused.place refused.divergence telling.kind)))
 
 -- whether the run may be resumed, and at which step: it may where a step is still to run
 unfoldable pub resume_of : Answer → List ℕ
-resume_of (Answer.Ok ending stop records calls failed) = filled stop (ascii (cond (still_to_run ending) "yes, step #" "no"))
-resume_of (Answer.No number place divergence calls) = ascii "no"
+resume_of (Ok accepted) = filled accepted.stop (ascii (cond (still_to_run accepted.ending) "yes, step #" "no"))
+resume_of (Err refused) = ascii "no"
 
 -- the version, as both programs print it
 abbrev pub version_line : List ℕ

@@ -46,19 +46,19 @@ pub fn state_of(answer: Answer) -> Line
     ensures { Holds result (state_column answer) }
 {
     match answer {
-        Answer::Ok {
+        Ok(Accepted {
             ending,
             stop,
             records,
             calls,
             failed,
-        } => ended(ending),
-        Answer::No {
+        }) => ended(ending),
+        Err(Refused {
             number,
             place,
             divergence,
             calls,
-        } => text(b"refused"),
+        }) => text(b"refused"),
     }
 }
 
@@ -74,19 +74,19 @@ pub fn step_of(answer: Answer) -> Line
     ensures { Holds result (step_column answer) }
 {
     match answer {
-        Answer::Ok {
+        Ok(Accepted {
             ending,
             stop,
             records,
             calls,
             failed,
-        } => stop_at(ending, stop),
-        Answer::No {
+        }) => stop_at(ending, stop),
+        Err(Refused {
             number,
             place,
             divergence,
             calls,
-        } => text(b""),
+        }) => text(b""),
     }
 }
 
@@ -117,19 +117,19 @@ pub fn what_of(plan: &[u8], answer: Answer) -> Line
     ensures { Holds result (what_column plan.now answer) }
 {
     match answer {
-        Answer::Ok {
+        Ok(Accepted {
             ending,
             stop,
             records,
             calls,
             failed,
-        } => what_at(plan, ending, stop),
-        Answer::No {
+        }) => what_at(plan, ending, stop),
+        Err(Refused {
             number,
             place,
             divergence,
             calls,
-        } => text(b""),
+        }) => text(b""),
     }
 }
 
@@ -182,19 +182,19 @@ pub fn failed_of(answer: Answer) -> Line
     ensures { Holds result (failed_column answer) }
 {
     match answer {
-        Answer::Ok {
+        Ok(Accepted {
             ending,
             stop,
             records,
             calls,
             failed,
-        } => bare(failed),
-        Answer::No {
+        }) => bare(failed),
+        Err(Refused {
             number,
             place,
             divergence,
             calls,
-        } => text(b""),
+        }) => text(b""),
     }
 }
 

@@ -103,14 +103,14 @@ pub(crate) fn empty() -> Line
 }
 
 fn accepted(ending: Ending, stop: u64, records: u64, calls: u64, failed: u64) -> Line
-    ensures { Holds result (line_of (Answer.Ok ending stop records calls failed)) }
+    ensures { Holds result (line_of (answer_ok ending stop records calls failed)) }
 {
     let said = push(word(write(empty(), b"ok "), ending), b' ');
     numbers(field(said, stop, b' '), records, calls, failed)
 }
 
 fn refused(number: u64, place: u64, divergence: u64, calls: u64) -> Line
-    ensures { Holds result (line_of (Answer.No number place divergence calls)) }
+    ensures { Holds result (line_of (answer_no number place divergence calls)) }
 {
     let said = field(write(empty(), b"no "), number, b' ');
     numbers(said, place, divergence, calls)
@@ -121,19 +121,19 @@ pub fn line_of(answer: Answer) -> Line
     ensures { Holds result (line_of answer) }
 {
     match answer {
-        Answer::Ok {
+        Ok(Accepted {
             ending,
             stop,
             records,
             calls,
             failed,
-        } => accepted(ending, stop, records, calls, failed),
-        Answer::No {
+        }) => accepted(ending, stop, records, calls, failed),
+        Err(Refused {
             number,
             place,
             divergence,
             calls,
-        } => refused(number, place, divergence, calls),
+        }) => refused(number, place, divergence, calls),
     }
 }
 

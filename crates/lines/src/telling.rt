@@ -79,22 +79,22 @@ pub fn telling(journal: &[u8], plan: &[u8], answer: Answer) -> Telling
     ensures { result ≡ telling_of journal.now plan.now answer }
 {
     match answer {
-        Answer::Ok {
+        Ok(Accepted {
             ending,
             stop,
             records,
             calls,
             failed,
-        } => Telling {
+        }) => Telling {
             kind: ending_kind(journal, plan, ending, stop, records),
             number: ending_shown(plan, ending, stop),
         },
-        Answer::No {
+        Err(Refused {
             number,
             place,
             divergence,
             calls,
-        } => Telling {
+        }) => Telling {
             kind: refused_kind(journal, number, place),
             number: refused_shown(journal, number, place),
         },

@@ -214,19 +214,19 @@ pub fn words_of(answer: Answer, telling: Telling) -> Line
     ensures { Holds result (words_of answer telling) }
 {
     match answer {
-        Answer::Ok {
+        Ok(Accepted {
             ending,
             stop,
             records,
             calls,
             failed,
-        } => ending_words(ending, telling.number, telling.kind, failed),
-        Answer::No {
+        }) => ending_words(ending, telling.number, telling.kind, failed),
+        Err(Refused {
             number,
             place,
             divergence,
             calls,
-        } => said(
+        }) => said(
             number,
             detail_of(number, place, divergence, telling.kind),
             telling.number,
@@ -240,19 +240,19 @@ pub fn resume_of(answer: Answer) -> Line
     ensures { Holds result (resume_of answer) }
 {
     match answer {
-        Answer::Ok {
+        Ok(Accepted {
             ending,
             stop,
             records,
             calls,
             failed,
-        } => resumed(ending, stop),
-        Answer::No {
+        }) => resumed(ending, stop),
+        Err(Refused {
             number,
             place,
             divergence,
             calls,
-        } => fill(b"no", 0),
+        }) => fill(b"no", 0),
     }
 }
 

@@ -73,19 +73,19 @@ fn boundary<'a>(rt: &impl Print, journal: &'a [u8], plan: &'a [u8], i: u64) -> i
     rt.print(i)?;
     let part = handing::handover(journal, plan, i);
     match handing::handover_case(journal, plan, i) {
-        Handed::Completed(_) => {
+        Ok(Handed::Completed(_)) => {
             rt.write_all(b" completed ")?;
             measures(rt, part)?;
         }
-        Handed::Failed(_) => {
+        Ok(Handed::Failed(_)) => {
             rt.write_all(b" failed ")?;
             measures(rt, part)?;
         }
-        Handed::Input(_) => {
+        Ok(Handed::Input(_)) => {
             rt.write_all(b" input ")?;
             measures(rt, part)?;
         }
-        Handed::Refused(number) => {
+        Err(number) => {
             rt.write_all(b" refused ")?;
             rt.print(number)?;
             rt.write_all(b" ")?;

@@ -1,14 +1,14 @@
 -- Its word and four numbers are written on an empty line.
 use Rattle.std.proofs.Common.{arith}
-use Rattle.histories.specs.declared.Answer.TheVariants as Answer
 use Rattle.lines.specs.Line.{line_of}
 use Rattle.lines.proofs.Written.{written_append, held}
 use Rattle.lines.proofs.refused.Goals as goal
+use Rattle.histories.specs.Answers.{answer_no}
 
 pub returns : goal.returns
 unfolding line_of
 returns c =
     let a = c.args in
-    held c.numbers.result (line_of (Answer.No a.number a.place a.divergence a.calls))
+    held c.numbers.result (line_of (answer_no a.number a.place a.divergence a.calls))
     (rw (c.numbers.ensures.value, c.field-said.ensures.value, c.write.ensures.value, c.empty.ensures.value) (simp written_append))
     (omega arith)
