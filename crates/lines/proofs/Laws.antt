@@ -1,13 +1,12 @@
--- Published laws: what a line's first bytes are, and that neither the verdict's line nor its words are ever empty.
-use Prim.Native.Nat.{ℕ, ◌-◌, ◌≤◌}
+-- Published laws: neither the verdict's line nor its words are ever empty, and the words of an ending.
+use Prim.Native.Nat.{ℕ, ◌≤◌}
 use mathlib.Core.Path.{◌≡◌, refl, sym, ap, ◌∙◌}
 use mathlib.Core.Bool.{Bool, true, false, cond, not, ◌&&◌, ◌||◌}
-use mathlib.Core.List.{List, [], ◌∷◌, ◌++◌, append-nil}
+use mathlib.Core.List.{List, [], ◌∷◌, ◌++◌, append-nil, append_assoc}
 use native.Mathlib.Omega.{arith}
 use borrow.Author.Tests.{not-true}
 use lib.Dec.{eqb}
-use lib.ListN.{length, replicate, take, length-append}
-use lib.Seq.{take-append-le}
+use lib.ListN.{length, length-append}
 use Rattle.files.proofs.Checks.{both}
 use Rattle.files.specs.declared.Entry.{Entry}
 use Rattle.files.specs.Kinds.{entry_in, kind_in}
@@ -21,13 +20,13 @@ use Rattle.lines.specs.Words.{Row, table, other_words, is_of, words_in, filled, 
 use Rattle.lines.specs.Telling.{ending_shown}
 use Rattle.lines.specs.Words.{ending_detail, tells_failed, failed_words, ending_words}
 
-pub held_len : (line : Line) (text : List ℕ) → Holds line text → line.len ≡ length text
-held_len line text h = ap (λ (l : Line). l.len) h.whole
-
--- the first bytes, up to all of the text
-pub held_front : (line : Line) (text : List ℕ) (n : ℕ) → Holds line text → n ≤ length text → take n line.bytes ≡ take n text
-held_front line text n h le =
-    ap (λ (l : Line). take n l.bytes) h.whole ∙ take-append-le n text (replicate (128 - length text) 0) le
+-- a line that holds some bytes, with a text and a number more
+pub held_more : {line now r : Line} {text : List ℕ} (xs ys : List ℕ) → Holds line text → now ≡ line ++ xs → r ≡ now ++ ys →
+    length r ≤ 128 → Holds r (text ++ (xs ++ ys))
+held_more {line} {now} {r} {text} xs ys h e f fits = record {
+  whole = f ∙ ap (λ (l : Line). l ++ ys) e ∙ append_assoc line xs ys ∙ ap (λ (l : Line). l ++ (xs ++ ys)) h.whole;
+  fits = fits;
+}
 
 pub line_some : (answer : Answer) → 1 ≤ length (line_of answer)
 unfolding line_of

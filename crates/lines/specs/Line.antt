@@ -1,5 +1,5 @@
 -- The verdict's line in bytes: 01, "`verdict` .. prints one line".
-use Rattle.std.specs.Prelude.{ℕ, zero, suc, ◌+◌, ◌-◌, ◌/◌, ◌%◌, ◌≤◌, ◌≡◌, cond, List, [], ◌∷◌, ◌++◌, ltb, length, replicate, take}
+use Rattle.std.specs.Prelude.{ℕ, zero, suc, ◌+◌, ◌/◌, ◌%◌, ◌≤◌, ◌≡◌, cond, List, [], ◌∷◌, ◌++◌, ltb, length}
 use Rattle.histories.specs.declared.Answer.{Answer}
 use Rattle.endings.specs.Endings.{ascii, ending_word}
 use Rattle.lines.specs.declared.Line.{Line}
@@ -26,12 +26,7 @@ line_of (Answer.Ok ending stop records calls failed) =
 line_of (Answer.No number place divergence calls) =
     spaced (ascii "no" ∷ decimal number ∷ decimal place ∷ decimal divergence ∷ decimal calls ∷ [])
 
--- a line that holds these bytes: they come first, and zeros after them
-abbrev pub holding : List ℕ → Line
-holding bytes = record { bytes = bytes ++ replicate (128 - length bytes) 0; len = length bytes }
-
--- a line is this one: every byte is fixed. The other two parts follow from that; callers that read a line's bytes use them.
+-- a line is this one. A clause sees a line as its bytes; `holding` says what those tell of the rest of it
 pub record Holds (line : Line) (bytes : List ℕ) : Type 0 where
-  pub whole : line ≡ holding bytes
-  pub fits : line.len ≤ length line.bytes
-  pub counts : line.len ≡ length (take line.len line.bytes)
+  pub whole : line ≡ bytes
+  pub fits : length line ≤ 128

@@ -19,14 +19,19 @@ fn text(bytes: &[u8]) -> Line
     requires { length bytes.now ≤ 128 }
     ensures { Holds result bytes.now }
 {
-    crate::write(crate::empty(), bytes)
+    let mut line = Line::empty();
+    line.write(bytes);
+    line
 }
 
 // A number alone.
+#[tactic(auto, using(crate::proofs::Decimal::twenty))]
 fn bare(n: u64) -> Line
     ensures { Holds result (decimal n) }
 {
-    crate::number(crate::empty(), n)
+    let mut line = Line::empty();
+    line.number(n);
+    line
 }
 
 // The run number.
@@ -46,26 +51,17 @@ pub fn state_of(answer: Answer) -> Line
     ensures { Holds result (state_column answer) }
 {
     match answer {
-        Answer::Ok {
-            ending,
-            stop,
-            records,
-            calls,
-            failed,
-        } => ended(ending),
-        Answer::No {
-            number,
-            place,
-            divergence,
-            calls,
-        } => text(b"refused"),
+        Answer::Ok { ending, .. } => ended(ending),
+        Answer::No { .. } => text(b"refused"),
     }
 }
 
 fn ended(ending: Ending) -> Line
     ensures { Holds result (ending_word ending) }
 {
-    crate::word(crate::empty(), ending)
+    let mut line = Line::empty();
+    line.word(ending);
+    line
 }
 
 // The step that is to run.
@@ -74,19 +70,8 @@ pub fn step_of(answer: Answer) -> Line
     ensures { Holds result (step_column answer) }
 {
     match answer {
-        Answer::Ok {
-            ending,
-            stop,
-            records,
-            calls,
-            failed,
-        } => stop_at(ending, stop),
-        Answer::No {
-            number,
-            place,
-            divergence,
-            calls,
-        } => text(b""),
+        Answer::Ok { ending, stop, .. } => stop_at(ending, stop),
+        Answer::No { .. } => text(b""),
     }
 }
 
@@ -117,19 +102,8 @@ pub fn what_of(plan: &[u8], answer: Answer) -> Line
     ensures { Holds result (what_column plan.now answer) }
 {
     match answer {
-        Answer::Ok {
-            ending,
-            stop,
-            records,
-            calls,
-            failed,
-        } => what_at(plan, ending, stop),
-        Answer::No {
-            number,
-            place,
-            divergence,
-            calls,
-        } => text(b""),
+        Answer::Ok { ending, stop, .. } => what_at(plan, ending, stop),
+        Answer::No { .. } => text(b""),
     }
 }
 
@@ -147,16 +121,12 @@ fn what_at(plan: &[u8], ending: Ending, stop: u64) -> Line
 fn what_is(e: Entry) -> Line
     ensures { Holds result (entry_text e) }
 {
-    if e.kind == 2 {
-        return words::fill(b"effect #", e.a as u64);
+    match e.kind {
+        2 => words::fill(b"effect #", e.a as u64),
+        5 => timer(e),
+        9 => gate(e),
+        _ => text(b""),
     }
-    if e.kind == 5 {
-        return timer(e);
-    }
-    if e.kind == 9 {
-        return gate(e);
-    }
-    text(b"")
 }
 
 fn timer(e: Entry) -> Line
@@ -172,8 +142,10 @@ fn timer(e: Entry) -> Line
 fn gate(e: Entry) -> Line
     ensures { Holds result (gate_text e) }
 {
-    let named = words::fill(b"gate #", e.a as u64);
-    crate::number(crate::write(named, b" version "), e.d)
+    let mut line = words::fill(b"gate #", e.a as u64);
+    line.write(b" version ");
+    line.number(e.d);
+    line
 }
 
 // The failed steps.
@@ -182,19 +154,8 @@ pub fn failed_of(answer: Answer) -> Line
     ensures { Holds result (failed_column answer) }
 {
     match answer {
-        Answer::Ok {
-            ending,
-            stop,
-            records,
-            calls,
-            failed,
-        } => bare(failed),
-        Answer::No {
-            number,
-            place,
-            divergence,
-            calls,
-        } => text(b""),
+        Answer::Ok { failed, .. } => bare(failed),
+        Answer::No { .. } => text(b""),
     }
 }
 

@@ -83,18 +83,12 @@ pub fn telling(journal: &[u8], plan: &[u8], answer: Answer) -> Telling
             ending,
             stop,
             records,
-            calls,
-            failed,
+            ..
         } => Telling {
             kind: ending_kind(journal, plan, ending, stop, records),
             number: ending_shown(plan, ending, stop),
         },
-        Answer::No {
-            number,
-            place,
-            divergence,
-            calls,
-        } => Telling {
+        Answer::No { number, place, .. } => Telling {
             kind: refused_kind(journal, number, place),
             number: refused_shown(journal, number, place),
         },
