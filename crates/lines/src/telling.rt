@@ -1,5 +1,5 @@
 // What `words_of` asks for beside the answer: the kind of the one entry that tells apart the words, and the number that they show.
-ghost use Rattle.std.specs.Prelude.{◌≡◌};
+ghost use Rattle.std.specs.Prelude.{◌≡◌, cond, eqb};
 ghost use Rattle.lines.specs.Telling.{entry_before, ending_kind, refused_kind, ending_shown, step_next, refused_shown, telling_of};
 
 use crate::words::Telling;
@@ -12,9 +12,10 @@ fn entry_before(journal: &[u8], place: u64) -> Entry
     ensures { result ≡ entry_before journal.now place }
 {
     if place == 0 {
-        return files::kinds::no_entry();
+        files::kinds::no_entry()
+    } else {
+        files::kinds::entry_of(journal, place - 1)
     }
-    files::kinds::entry_of(journal, place - 1)
 }
 
 // The kind of the step at the stop, or of the record that ended the run.
@@ -34,34 +35,34 @@ fn ending_kind(journal: &[u8], plan: &[u8], ending: Ending, stop: u64, records: 
 fn refused_kind(journal: &[u8], number: u64, place: u64) -> u8
     ensures { result ≡ refused_kind journal.now number place }
 {
-    if number == 24 {
-        return entry_before(journal, place).kind;
+    match number {
+        24 => entry_before(journal, place).kind,
+        31 => files::kinds::kind_of(journal, place),
+        _ => 0,
     }
-    if number == 31 {
-        return files::kinds::kind_of(journal, place);
-    }
-    0
 }
 
 // The number that an ending shows: the stop, or the gate where one is due.
 fn ending_shown(plan: &[u8], ending: Ending, stop: u64) -> u64
     ensures { result ≡ ending_shown plan.now ending stop }
 {
-    let step = files::kinds::entry_of(plan, stop);
-    if (ending.number() == 1) & (step.kind == 9) {
-        return step.a as u64;
+    match ending {
+        Ending::Due => due_shown(files::kinds::entry_of(plan, stop), stop),
+        Ending::Unstarted | Ending::Done | Ending::Open | Ending::Finished => stop,
     }
-    stop
+}
+
+fn due_shown(step: Entry, stop: u64) -> u64
+    ensures { result ≡ cond (eqb step.kind 9) step.a stop }
+{
+    if step.kind == 9 { step.a as u64 } else { stop }
 }
 
 // The step that comes after a record: the start, or one that closes a step.
 fn step_next(e: Entry) -> u64
     ensures { result ≡ step_next e }
 {
-    if e.kind == 1 {
-        return 0;
-    }
-    (e.s as u64) + 1
+    if e.kind == 1 { 0 } else { (e.s as u64) + 1 }
 }
 
 // The number that a refusal shows: the place, or for 45 the step at which the run was completed.
@@ -69,9 +70,10 @@ fn refused_shown(journal: &[u8], number: u64, place: u64) -> u64
     ensures { result ≡ refused_shown journal.now number place }
 {
     if number == 45 {
-        return step_next(entry_before(journal, place));
+        step_next(entry_before(journal, place))
+    } else {
+        place
     }
-    place
 }
 
 // What `words_of` asks for beside the answer.

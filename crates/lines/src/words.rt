@@ -2,7 +2,7 @@
 ghost use Rattle.std.specs.Prelude.{◌≡◌, cond, ◌+◌, ◌++◌, ◌≤◌, length};
 ghost use Rattle.endings.specs.Endings.{ascii, still_to_run};
 ghost use Rattle.lines.specs.Line.{Holds};
-ghost use Rattle.lines.specs.Words.{table, words_in, filled, shown, ending_detail, ending_words, detail_of, words_of, resume_of};
+ghost use Rattle.lines.specs.Words.{table, words_in, filled, shown, ending_detail, tells_failed, ending_words, detail_of, words_of, resume_of};
 
 use crate::Line;
 use endings::Ending;
@@ -119,27 +119,32 @@ fn ending_detail(ending: Ending, kind: u8) -> u64
 fn detail_of(number: u64, place: u64, divergence: u64, kind: u8) -> u64
     ensures { result ≡ detail_of number place divergence kind }
 {
-    if number == 24 {
-        if place == 0 {
-            return 0;
-        }
-        if (2 == kind) | (5 == kind) {
-            return 2;
-        }
-        return 1;
+    match number {
+        24 if place == 0 => 0,
+        24 if (kind == 2) | (kind == 5) => 2,
+        24 => 1,
+        31 if kind == 9 => 1,
+        31 => 0,
+        _ => divergence,
     }
-    if number != 31 {
-        return divergence;
-    }
-    if kind == 9 { 1 } else { 0 }
 }
 
-// What an ending means, and how many steps failed: where one did, and of a run that is done in any case.
+// Whether the failed steps are told: where one did fail, and of a run that is done in any case.
+fn tells_failed(ending: Ending, failed: u64) -> bool
+    ensures { result ≡ tells_failed ending failed }
+{
+    match ending {
+        Ending::Done => true,
+        Ending::Unstarted | Ending::Due | Ending::Open | Ending::Finished => failed != 0,
+    }
+}
+
+// What an ending means, and how many steps failed, where that is told.
 fn ending_words(ending: Ending, n: u64, kind: u8, failed: u64) -> Line
     ensures { Holds result (ending_words ending n kind failed) }
 {
     let mut line = said(0, ending_detail(ending, kind), n);
-    if (ending.number() == 2) | (failed != 0) {
+    if tells_failed(ending, failed) {
         line.write(b"; failed steps: ");
         line.number(failed);
     }
@@ -151,13 +156,9 @@ fn ending_words(ending: Ending, n: u64, kind: u8, failed: u64) -> Line
 pub fn words_of(answer: Answer, telling: Telling) -> Line
     ensures { Holds result (words_of answer telling) }
 {
+    let n = telling.number;
     match answer {
-        Answer::Ok { ending, failed, .. } => ending_words(
-            ending,
-            telling.number,
-            telling.kind,
-            failed,
-        ),
+        Answer::Ok { ending, failed, .. } => ending_words(ending, n, telling.kind, failed),
         Answer::No {
             number,
             place,
@@ -166,7 +167,7 @@ pub fn words_of(answer: Answer, telling: Telling) -> Line
         } => said(
             number,
             detail_of(number, place, divergence, telling.kind),
-            telling.number,
+            n,
         ),
     }
 }
