@@ -2,14 +2,13 @@
 use Prim.Native.Nat.{ℕ, ◌≤◌}
 use mathlib.Core.Path.{◌≡◌, refl, sym, ap, ◌∙◌}
 use mathlib.Core.Bool.{Bool, true, false, cond, not, ◌&&◌}
-use mathlib.Core.List.{List, [], ◌∷◌, ◌++◌, append-nil, append_assoc}
+use mathlib.Core.List.{List, [], ◌∷◌, ◌++◌, append_assoc}
 use native.Mathlib.Omega.{arith}
 use borrow.Author.Tests.{not-true}
 use lib.Dec.{eqb}
 use lib.ListN.{length, length-append}
 use Rattle.files.proofs.Checks.{both}
 use Rattle.histories.specs.declared.Answer.{Answer}
-use Rattle.lines.specs.declared.Line.{Line}
 use Rattle.lines.specs.declared.words.Telling.{Telling}
 use Rattle.lines.specs.Line.{line_of, Holds}
 use Rattle.endings.specs.declared.Ending.{Ending}
@@ -18,10 +17,10 @@ use Rattle.lines.specs.Words.{Row, table, other_words, is_of, words_in, filled, 
 use Rattle.lines.specs.Words.{ending_detail, tells_failed, failed_words, ending_words}
 
 -- a line that holds some bytes, with a text and a number more
-pub held_more : {line now r : Line} {text : List ℕ} (xs ys : List ℕ) → Holds line text → now ≡ line ++ xs → r ≡ now ++ ys →
+pub held_more : {line now r text : List ℕ} (xs ys : List ℕ) → Holds line text → now ≡ line ++ xs → r ≡ now ++ ys →
     length r ≤ 128 → Holds r (text ++ (xs ++ ys))
 held_more {line} {now} {r} {text} xs ys h e f fits = record {
-  whole = f ∙ ap (λ (l : Line). l ++ ys) e ∙ append_assoc line xs ys ∙ ap (λ (l : Line). l ++ (xs ++ ys)) h.whole;
+  whole = f ∙ ap (λ (l : List ℕ). l ++ ys) e ∙ append_assoc line xs ys ∙ ap (λ (l : List ℕ). l ++ (xs ++ ys)) h.whole;
   fits = fits;
 }
 
@@ -68,7 +67,7 @@ words_some (Answer.No number place divergence calls) telling =
     table_some telling.number number (detail_of number place divergence telling.kind)
 
 -- the words of an ending, with the failed steps
-pub told_failed : (ending : Ending) (n kind failed : ℕ) {detail : ℕ} {line : Line} → tells_failed ending failed ≡ true →
+pub told_failed : (ending : Ending) (n kind failed : ℕ) {detail : ℕ} {line : List ℕ} → tells_failed ending failed ≡ true →
     detail ≡ ending_detail ending kind → Holds line (filled n (ascii (words_in table 0 detail)) ++ failed_words failed) →
     Holds line (ending_words ending n kind failed)
 told_failed ending n kind failed b e h = rw (b, sym e) h

@@ -1,16 +1,16 @@
--- How a line is kept: its bytes come first in the room, and zeros after them.
+-- How a text is kept in a room of this size: its bytes come first, and zeros after them.
 use Rattle.std.specs.Prelude.{ℕ, ◌-◌, ◌≤◌, ◌≡◌, List, ◌++◌, length, replicate, take}
-use Rattle.lines.specs.declared.Line.TheInside.{Inside}
+use Rattle.lines.specs.declared.text.Text.TheInside.{Inside}
 
--- the line's own bytes
-abbrev pub bytes_of : Inside → List ℕ
-bytes_of l = take l.len l.bytes
+-- the text's own bytes
+abbrev pub bytes_of : {size : ℕ} → Inside size → List ℕ
+bytes_of t = take t.len t.bytes
 
--- a line that holds these bytes: they come first, and zeros after them
-abbrev pub holding : List ℕ → Inside
-holding bytes = record { bytes = bytes ++ replicate (128 - length bytes) 0; len = length bytes }
+-- a text of these bytes: they come first, and zeros after them
+abbrev pub holding : (size : ℕ) → List ℕ → Inside size
+holding size bytes = record { bytes = bytes ++ replicate (size - length bytes) 0; len = length bytes }
 
--- every byte of a line is fixed by those that it holds
-pub record IsKept (l : Inside) : Type 0 where
-  pub whole : holding (bytes_of l) ≡ l
-  pub fits : l.len ≤ 128
+-- every byte of the room is fixed by those of the text
+pub record IsKept (size : ℕ) (t : Inside size) : Type 0 where
+  pub whole : holding size (bytes_of t) ≡ t
+  pub fits : t.len ≤ size

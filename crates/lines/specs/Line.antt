@@ -2,7 +2,7 @@
 use Rattle.std.specs.Prelude.{ℕ, zero, suc, ◌+◌, ◌/◌, ◌%◌, ◌≤◌, ◌≡◌, cond, List, [], ◌∷◌, ◌++◌, ltb, length}
 use Rattle.histories.specs.declared.Answer.{Answer}
 use Rattle.endings.specs.Endings.{ascii, ending_word}
-use Rattle.lines.specs.declared.Line.{Line}
+use Rattle.lines.specs.declared.text.Text.{Text}
 
 -- a number's digits, at most `most` of them: those of the number divided by ten, where that is not 0, then the last one
 abbrev pub digits : ℕ → ℕ → List ℕ
@@ -27,6 +27,6 @@ line_of (Answer.No number place divergence calls) =
     spaced (ascii "no" ∷ decimal number ∷ decimal place ∷ decimal divergence ∷ decimal calls ∷ [])
 
 -- a line is this one. A clause sees a line as its bytes; `holding` says what those tell of the rest of it
-pub record Holds (line : Line) (bytes : List ℕ) : Type 0 where
+pub record Holds (line : Text 128) (bytes : List ℕ) : Type 0 where
   pub whole : line ≡ bytes
   pub fits : length line ≤ 128

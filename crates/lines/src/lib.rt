@@ -6,6 +6,7 @@
 
 pub mod columns;
 pub mod telling;
+mod text;
 pub mod words;
 
 ghost use Rattle.std.specs.Prelude.{◌≡◌, [], ◌∷◌, ◌++◌, ◌+◌, ◌≤◌, ◌<◌, length};
@@ -15,67 +16,12 @@ ghost use Rattle.lines.specs.Words.{version_line};
 
 use endings::Ending;
 use histories::Answer;
-use std::marker::Model;
+pub use text::Text;
 
-// The bytes of a line, in a room that is as large as any line may be.
-#[derive(Clone, Copy)]
-pub struct Line {
-    bytes: [u8; 128],
-    len: usize,
-}
-
-// A clause sees the line's bytes alone. What stands behind them is zeros, so the bytes tell the whole of it.
-impl Model for Line {
-    ghost use Rattle.std.specs.Prelude.{List, ℕ};
-
-    ghost Value = { List ℕ };
-
-    ghost use Rattle.lines.specs.Kept.{bytes_of, holding, IsKept};
-
-    ghost view = { bytes_of };
-
-    ghost invariant = { IsKept };
-
-    ghost inverse = { holding };
-
-    ghost inverse_ok = { λ l h. h.whole };
-}
+// A line has room for the longest that any answer has.
+pub type Line = Text<128>;
 
 impl Line {
-    pub(crate) fn empty() -> Line
-        ensures { result ≡ [] }
-    {
-        Line {
-            bytes: [0; 128],
-            len: 0,
-        }
-    }
-
-    // The line's bytes, and none of those behind it.
-    pub fn as_bytes(&self) -> &[u8]
-        ensures value { result.now ≡ self.now }
-        ensures len_bound { length self.now ≤ 128 }
-    {
-        &self.bytes[..self.len]
-    }
-
-    pub(crate) fn push(&mut self, byte: u8)
-        requires { length self.old < 128 }
-        ensures { self.new ≡ self.old ++ byte ∷ [] }
-    {
-        self.bytes[self.len] = byte;
-        self.len += 1;
-    }
-
-    pub(crate) fn write(&mut self, text: &[u8])
-        requires { length self.old + length text.now ≤ 128 }
-        ensures { self.new ≡ self.old ++ text.now }
-    {
-        for byte in text {
-            self.push(*byte);
-        }
-    }
-
     // The digits of a number: those of the number divided by ten, where that is not 0, then the last one.
     pub(crate) fn number(&mut self, n: u64)
         requires { length self.old + length (decimal n) ≤ 128 }
