@@ -25,7 +25,7 @@ def functions(crate):
         module = "" if file.stem == "lib" else file.stem + "::"
         owner, lines = "", text.splitlines()
         for i, line in enumerate(lines):
-            impl, fn = re.match(r"impl (\w+) {", line), re.match(r'\s*pub (?:extern "C" )?fn (\w+)', line)
+            impl, fn = re.match(r"impl(?:<.*>)? (\w+)(?:<.*>)? {", line), re.match(r'\s*pub (?:extern "C" )?fn (\w+)', line)
             if impl:
                 owner = (module if re.search(rf"(?:struct|enum) {impl[1]}\b", text) else "") + impl[1] + "::"
             elif line == "}":

@@ -1,4 +1,4 @@
--- Laws of a lent buffer: the bytes of a text copied so far, what is lent in the end, and the text that a line holds.
+-- Laws of a lent buffer: the bytes of a text copied so far, what is lent in the end, and the size of what a line holds.
 use Prim.Native.Nat.{ℕ, ◌+◌, ◌≤◌, ◌<◌}
 use mathlib.Core.Path.{◌≡◌, refl, sym, ap, ◌∙◌}
 use mathlib.Core.List.{List}
@@ -6,11 +6,9 @@ use native.Mathlib.Nat.{zero-add}
 use native.Mathlib.Numerals.{add-one}
 use native.Mathlib.Omega.{arith}
 use borrow.Author.Tests.{le-leb, lt-leb}
-use lib.ListN.{length, take, get_or, set, length-set}
+use lib.ListN.{length, get_or, set, length-set}
 use lib.Seq.{paste, paste-zero, paste-suc, take-length}
-use Rattle.lines.specs.declared.Line.{Line}
 use Rattle.lines.specs.Line.{Holds}
-use Rattle.lines.proofs.Laws.{held_len, held_front}
 use Rattle.hiskurdo.specs.Texts.{lent, Sized}
 
 -- the first n bytes of a text stand first, and all else is as it was
@@ -45,15 +43,6 @@ pub lent_none : (before text : List ℕ) → length before < length text → (0,
 unfolding lent
 lent_none before text h = rw (lt-leb (length text) (length before) h)
 
-held_text : (line : Line) (text : List ℕ) → Holds line text → take line.len line.bytes ≡ text
-held_text line text h =
-    rw (held_len line text h) (held_front line text (length text) h (omega arith) ∙ take-length text)
-
--- a text that a line of at most 128 bytes holds, lent
-module _ (line : Line) (held text room after : List ℕ) (r : ℕ) where
-  pub held_lent : Holds line held → held ≡ text → (r, after) ≡ lent (take line.len line.bytes) room → line.len ≤ 128 →
-      1 ≤ length held → ((r, after) ≡ lent text room) × Sized text
-  held_lent h same given most some = (
-    given ∙ ap (λ (t : List ℕ). lent t room) (held_text line held h ∙ same),
-    rw (sym same) (record { some = some; most = omega (arith, held_len line held h) }),
-  )
+-- a text that a line of at most 128 bytes holds
+pub held_sized : (line held text : List ℕ) → Holds line held → held ≡ text → 1 ≤ length held → Sized text
+held_sized line held text h same some = rw (sym same) (record { some = some; most = omega (arith, h.fits, ap length h.whole) })

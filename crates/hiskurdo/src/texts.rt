@@ -2,7 +2,7 @@
 //
 // Owns: what becomes of the buffer. Must not own: the line, the words, the version's text.
 // Defends: the whole text or nothing, and no byte beyond it is touched.
-ghost use Rattle.std.specs.Prelude.{◌≡◌, ◌≤◌, length, take};
+ghost use Rattle.std.specs.Prelude.{◌≡◌, ◌≤◌, length};
 ghost use Rattle.resume.specs.Verdict.{verdict_rule};
 ghost use Rattle.lines.specs.Line.{line_of};
 ghost use Rattle.lines.specs.Words.{version_line};
@@ -26,13 +26,10 @@ fn lend(room: &mut [u8], text: &[u8]) -> u64
 }
 
 fn lend_line(room: &mut [u8], line: Line) -> u64
-    requires { line.len ≤ length line.bytes }
-    ensures room_after { (result, room.new) ≡ lent (take line.len line.bytes) room.old }
-    ensures len_bound { line.len ≤ 128 }
+    ensures room_after { (result, room.new) ≡ lent line room.old }
+    ensures len_bound { length line ≤ 128 }
 {
-    let bytes = line.bytes;
-    let len = line.len;
-    lend(room, &bytes[..len])
+    lend(room, line.as_bytes())
 }
 
 // The verdict's line, with its line feed.

@@ -82,9 +82,7 @@ fn usage(to: &impl Print) {
 
 fn version(rt: &HostRuntime) {
     let line = lines::version();
-    let bytes = line.bytes;
-    let len = line.len;
-    let _ = rt.write_all(&bytes[..len]);
+    let _ = rt.write_all(line.as_bytes());
 }
 
 // The row of each argument, up to the first that cannot be written.
@@ -112,7 +110,6 @@ fn folder(rt: &HostRuntime, i: usize, journal: &mut [u8], plan: &mut [u8]) -> bo
 fn print_row(rt: &HostRuntime, name: &[u8], journal: &[u8], plan: &[u8]) -> bool
     requires { length name.now ≤ 4096 }
 {
-    let mut room = [0u8; 4608];
-    let len = rows::row(name, journal, plan, &mut room);
-    rt.write_all(&room[..len]).is_ok()
+    let row = rows::row(name, journal, plan);
+    rt.write_all(row.as_bytes()).is_ok()
 }

@@ -1,34 +1,29 @@
--- Published laws: what a line's first bytes are, and that neither the verdict's line nor its words are ever empty.
+-- Published laws: neither the verdict's line nor its words are ever empty, and the words of an ending.
 use Rattle.std.specs.Prelude.{Ok, Err}
-use Prim.Native.Nat.{ℕ, ◌-◌, ◌≤◌}
+use Prim.Native.Nat.{ℕ, ◌≤◌}
 use mathlib.Core.Path.{◌≡◌, refl, sym, ap, ◌∙◌}
-use mathlib.Core.Bool.{Bool, true, false, cond, not, ◌&&◌, ◌||◌}
-use mathlib.Core.List.{List, [], ◌∷◌, ◌++◌, append-nil}
+use mathlib.Core.Bool.{Bool, true, false, cond, not, ◌&&◌}
+use mathlib.Core.List.{List, [], ◌∷◌, ◌++◌, append_assoc}
 use native.Mathlib.Omega.{arith}
 use borrow.Author.Tests.{not-true}
 use lib.Dec.{eqb}
-use lib.ListN.{length, replicate, take, length-append}
-use lib.Seq.{take-append-le}
+use lib.ListN.{length, length-append}
 use Rattle.files.proofs.Checks.{both}
-use Rattle.files.specs.declared.Entry.{Entry}
-use Rattle.files.specs.Kinds.{entry_in, kind_in}
 use Rattle.histories.specs.Answers.{Answer}
-use Rattle.lines.specs.declared.Line.{Line}
 use Rattle.lines.specs.declared.words.Telling.{Telling}
 use Rattle.lines.specs.Line.{line_of, Holds}
 use Rattle.endings.specs.declared.Ending.{Ending}
-use Rattle.endings.specs.Endings.{ascii, ending_number}
+use Rattle.endings.specs.Endings.{ascii}
 use Rattle.lines.specs.Words.{Row, table, other_words, is_of, words_in, filled, detail_of, words_of}
-use Rattle.lines.specs.Telling.{ending_shown}
 use Rattle.lines.specs.Words.{ending_detail, tells_failed, failed_words, ending_words}
 
-pub held_len : (line : Line) (text : List ℕ) → Holds line text → line.len ≡ length text
-held_len line text h = ap (λ (l : Line). l.len) h.whole
-
--- the first bytes, up to all of the text
-pub held_front : (line : Line) (text : List ℕ) (n : ℕ) → Holds line text → n ≤ length text → take n line.bytes ≡ take n text
-held_front line text n h le =
-    ap (λ (l : Line). take n l.bytes) h.whole ∙ take-append-le n text (replicate (128 - length text) 0) le
+-- a line that holds some bytes, with a text and a number more
+pub held_more : {line now r text : List ℕ} (xs ys : List ℕ) → Holds line text → now ≡ line ++ xs → r ≡ now ++ ys →
+    length r ≤ 128 → Holds r (text ++ (xs ++ ys))
+held_more {line} {now} {r} {text} xs ys h e f fits = record {
+  whole = f ∙ ap (λ (l : List ℕ). l ++ ys) e ∙ append_assoc line xs ys ∙ ap (λ (l : List ℕ). l ++ (xs ++ ys)) h.whole;
+  fits = fits;
+}
 
 pub line_some : (answer : Answer) → 1 ≤ length (line_of answer)
 unfolding line_of
@@ -72,25 +67,8 @@ words_some (Ok accepted) telling =
 words_some (Err refused) telling =
     table_some telling.number refused.number (detail_of refused.number refused.place refused.divergence telling.kind)
 
--- whether the failed steps are told, by the ending's number
-pub tells_by : (ending : Ending) (failed n : ℕ) (b : Bool) → n ≡ ending_number ending → (eqb n 2 || not (eqb failed 0)) ≡ b →
-    tells_failed ending failed ≡ b
-tells_by ending failed n b e h = sym (ap (λ (k : ℕ). eqb k 2 || not (eqb failed 0)) e) ∙ h
-
--- the words of an ending, with the failed steps or without
-pub told_failed : (ending : Ending) (n kind failed : ℕ) {detail : ℕ} {line : Line} → tells_failed ending failed ≡ true →
+-- the words of an ending, with the failed steps
+pub told_failed : (ending : Ending) (n kind failed : ℕ) {detail : ℕ} {line : List ℕ} → tells_failed ending failed ≡ true →
     detail ≡ ending_detail ending kind → Holds line (filled n (ascii (words_in table 0 detail)) ++ failed_words failed) →
     Holds line (ending_words ending n kind failed)
 told_failed ending n kind failed b e h = rw (b, sym e) h
-
-pub untold_failed : (ending : Ending) (n kind failed : ℕ) {detail : ℕ} {line : Line} → tells_failed ending failed ≡ false →
-    detail ≡ ending_detail ending kind → Holds line (filled n (ascii (words_in table 0 detail))) →
-    Holds line (ending_words ending n kind failed)
-untold_failed ending n kind failed b e h = rw (b, sym e, append-nil) h
-
--- what an ending shows, by the ending's number and the plan's entry at the stop
-pub shown_by : (plan : List ℕ) (ending : Ending) (stop : ℕ) (e : Entry) (n : ℕ) (b : Bool) → e ≡ entry_in plan stop → n ≡ ending_number ending →
-    (eqb n 1 && eqb e.kind 9) ≡ b → ending_shown plan ending stop ≡ cond b e.a stop
-shown_by plan ending stop e n b read numbered test =
-    ap (λ (m : ℕ). cond (eqb m 1 && eqb (kind_in plan stop) 9) (entry_in plan stop).a stop) (sym numbered) ∙
-    ap (λ (x : Entry). cond (eqb n 1 && eqb x.kind 9) x.a stop) (sym read) ∙ ap (λ (t : Bool). cond t e.a stop) test

@@ -1,5 +1,5 @@
 mod Decimal
-mod Written
+mod Kept
 mod Right
 mod Table
 pub mod Laws

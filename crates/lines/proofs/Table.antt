@@ -1,69 +1,27 @@
--- Laws of the table of words in bytes: what stands at a row's place, how the next row is reached, and that every text has room.
-use Prim.Native.Nat.{ℕ, ◌+◌, ◌-◌, ◌/◌, ◌%◌, ◌≤◌, ◌<◌}
+-- Laws of the words: which row an arm of the table is, that no other number and detail has one, and that every text has room.
+use Prim.Native.Nat.{ℕ, zero, suc, ◌+◌, ◌≤◌, ◌<◌}
 use mathlib.Core.Path.{◌≡◌, refl, sym, ap, ◌∙◌}
 use mathlib.Core.Bool.{Bool, true, false, cond, not, ◌&&◌, ◌||◌}
-use mathlib.Core.List.{List, [], ◌∷◌, ◌++◌}
-use native.Mathlib.Numerals.{add-one}
+use mathlib.Core.List.{List, [], ◌∷◌, ◌++◌, append-nil, append_assoc}
 use native.Mathlib.Omega.{arith}
-use borrow.Author.Tests.{lt-ltb, le-ltb, eq-eqb, ne_eqb, ltb-true, leb-true, eqb-true, not-true}
-use lib.Dec.{eqb, ltb, leb}
-use lib.ListN.{length, take, drop, get_or, length-append, length-drop, drop_of_length-le}
-use lib.Seq.{drop-cons, get_or-drop, drop-drop, take_all}
+use borrow.Author.Tests.{ne_eqb, leb-true, eqb-true}
+use lib.Dec.{eqb, leb}
+use lib.ListN.{length, take, get_or, length-append}
 use Rattle.files.proofs.Checks.{both}
+use Rattle.records.specs.Records.{among}
+use Rattle.endings.specs.Endings.{ascii}
 use Rattle.lines.specs.Line.{decimal}
 use Rattle.lines.specs.Words.{Row, table, other_words, is_of, words_in, shown, filled}
-use Rattle.endings.specs.Endings.{ascii}
-use Rattle.lines.specs.Rows.{coded, keyed, after_line, of_line, words_at}
 use Rattle.lines.proofs.Decimal.{twenty}
-
--- bytes on one line
-abbrev unbroken : List ℕ → Bool
-unbroken [] = true
-unbroken (byte ∷ bytes) = not (eqb byte 10) && unbroken bytes
 
 -- the most bytes that a text can take with a 64-bit number in it
 abbrev room : List ℕ → ℕ
 room [] = 0
 room (byte ∷ bytes) = cond (eqb byte 35) 20 1 + room bytes
 
-abbrev plain : Row → Bool
-plain r = ltb r.number 100 && (ltb r.detail 10 && (unbroken (ascii r.words) && leb (room (ascii r.words)) 128))
-
-abbrev plains : List Row → Bool
-plains [] = true
-plains (r ∷ rows) = plain r && plains rows
-
--- one computed test of the whole table
-table_plain : plains table ≡ true
-table_plain = refl
-
-other_room : leb (room (ascii other_words)) 128 ≡ true
-other_room = refl
-
-of_line_lem : (bytes rest : List ℕ) → unbroken bytes ≡ true → of_line (bytes ++ (10 ∷ rest)) ≡ bytes
-of_line_lem [] rest h = refl
-of_line_lem (byte ∷ bytes) rest h =
-    let parts = both (not (eqb byte 10)) (unbroken bytes) h in rw (not-true (eqb byte 10) parts.0, of_line_lem bytes rest parts.1)
-
-after_line_lem : (bytes rest : List ℕ) → unbroken bytes ≡ true → after_line (bytes ++ (10 ∷ rest)) ≡ rest
-after_line_lem [] rest h = refl
-after_line_lem (byte ∷ bytes) rest h =
-    let parts = both (not (eqb byte 10)) (unbroken bytes) h in rw (not-true (eqb byte 10) parts.0) (after_line_lem bytes rest parts.1)
-
-pub of_whole : (bytes : List ℕ) → unbroken bytes ≡ true → of_line bytes ≡ bytes
-of_whole [] h = refl
-of_whole (byte ∷ bytes) h =
-    let parts = both (not (eqb byte 10)) (unbroken bytes) h in rw (not-true (eqb byte 10) parts.0, of_whole bytes parts.1)
-
--- a digit of a row is no line feed
-digit : (n : ℕ) → eqb (48 + n) 10 ≡ false
-digit n = ne_eqb (48 + n) 10 (λ (e : 48 + n ≡ 10). omega arith)
-
-pub shown_number : (n byte : ℕ) → byte ≡ 35 → shown n byte ≡ decimal n
-shown_number n byte e = rw (eq-eqb byte 35 e)
-
-pub shown_byte : (n byte : ℕ) → (byte ≡ 35 → ⊥) → shown n byte ≡ byte ∷ []
-shown_byte n byte e = rw (ne_eqb byte 35 e)
+abbrev roomy : List Row → Bool
+roomy [] = leb (room (ascii other_words)) 128
+roomy (r ∷ rows) = leb (room (ascii r.words)) 128 && roomy rows
 
 shown_room : (n byte : ℕ) (b : Bool) → n < 18446744073709551616 → length (cond b (decimal n) (byte ∷ [])) ≤ cond b 20 1
 shown_room n byte true h = twenty n h
@@ -77,28 +35,20 @@ filled_room n (byte ∷ bytes) h =
 pub fits : (n : ℕ) (bytes : List ℕ) → n < 18446744073709551616 → leb (room bytes) 128 ≡ true → length (filled n bytes) ≤ 128
 fits n bytes h e = omega (arith, filled_room n bytes h, leb-true (room bytes) 128 e)
 
-parts_of : (r : Row) → plain r ≡ true →
-    (r.number < 100) × (r.detail < 10) × (unbroken (ascii r.words) ≡ true) × (leb (room (ascii r.words)) 128 ≡ true)
-parts_of r h =
-    let p = both (ltb r.number 100) (ltb r.detail 10 && (unbroken (ascii r.words) && leb (room (ascii r.words)) 128)) h in
-    let q = both (ltb r.detail 10) (unbroken (ascii r.words) && leb (room (ascii r.words)) 128) p.1 in
-    let s = both (unbroken (ascii r.words)) (leb (room (ascii r.words)) 128) q.1 in
-    (ltb-true r.number 100 p.0, ltb-true r.detail 10 q.0, s.0, s.1)
-
-words_room : (rows : List Row) (number detail : ℕ) → plains rows ≡ true → leb (room (ascii (words_in rows number detail))) 128 ≡ true
-words_room [] number detail h = other_room
+words_room : (rows : List Row) (number detail : ℕ) → roomy rows ≡ true → leb (room (ascii (words_in rows number detail))) 128 ≡ true
+words_room [] number detail h = h
 words_room (r ∷ rows) number detail h =
-    let p = both (plain r) (plains rows) h in
-    either_room (is_of number detail r) (parts_of r p.0).3 (words_room rows number detail p.1)
+    let p = both (leb (room (ascii r.words)) 128) (roomy rows) h in
+    either (is_of number detail r) p.0 (words_room rows number detail p.1)
   where
-    either_room : (b : Bool) → leb (room (ascii r.words)) 128 ≡ true → leb (room (ascii (words_in rows number detail))) 128 ≡ true →
+    either : (b : Bool) → leb (room (ascii r.words)) 128 ≡ true → leb (room (ascii (words_in rows number detail))) 128 ≡ true →
         leb (room (ascii (cond b r.words (words_in rows number detail)))) 128 ≡ true
-    either_room true x y = x
-    either_room false x y = y
+    either true x y = x
+    either false x y = y
 
 -- the words of the table have room, whatever number stands in them
 pub words_fit : (n number detail : ℕ) → n < 18446744073709551616 → length (filled n (ascii (words_in table number detail))) ≤ 128
-words_fit n number detail h = fits n (ascii (words_in table number detail)) h (words_room table number detail table_plain)
+words_fit n number detail h = fits n (ascii (words_in table number detail)) h (words_room table number detail refl)
 
 -- the words of an ending leave room for the failed steps
 abbrev brief : Row → Bool
@@ -129,168 +79,97 @@ ending_fits n detail h =
     let words = ascii (words_in table 0 detail) in
     omega (arith, filled_room n words h, leb-true (room words) 92 (ending_room table detail refl))
 
-pub other_fit : (n : ℕ) → n < 18446744073709551616 → length (filled n (of_line (ascii other_words))) ≤ 128
-other_fit n h = fits n (of_line (ascii other_words)) h refl
+-- a text shown byte by byte: one more is shown, and there is room for it
+pub filled_next : (n : ℕ) (text : List ℕ) (i : ℕ) → i < length text →
+    filled n (take (suc i) text) ≡ filled n (take i text) ++ shown n (get_or text i 0)
+filled_next n [] i h = absurd (omega arith)
+filled_next n (byte ∷ bytes) zero h = append-nil (shown n byte)
+filled_next n (byte ∷ bytes) (suc i) h =
+    rw (filled_next n bytes i (omega arith)) (sym (append_assoc (shown n byte) (filled n (take i bytes)) (shown n (get_or bytes i 0))))
 
--- a search at a place: the rows that are left
-pub record Left (text : List ℕ) (at number detail : ℕ) : Type 0 where
-  pub rows : List Row
-  pub below : at ≤ length text
-  pub stands : drop at text ≡ coded rows
-  pub right : plains rows ≡ true
-  pub same : words_in table number detail ≡ words_in rows number detail
-
-pub begin : (text : List ℕ) (number detail : ℕ) → text ≡ coded table → Left text 0 number detail
-begin text number detail e = record { rows = table; below = omega arith; stands = e; right = table_plain; same = refl }
-
--- where rows are left, a whole row stands there
-row_length : (r : Row) (rows : List Row) → 6 ≤ length (coded (r ∷ rows))
-row_length r rows = omega (arith, length-append (ascii r.words) (10 ∷ coded rows))
-
--- a byte of what stands at a place
-byte_at : (text bytes : List ℕ) (at i : ℕ) → drop at text ≡ bytes → get_or text (at + i) 0 ≡ get_or bytes i 0
-byte_at text bytes at i e = sym (get_or-drop at text i 0) ∙ ap (λ (l : List ℕ). get_or l i 0) e
-
-iff : (a b : Bool) → (a ≡ true → b ≡ true) → (b ≡ true → a ≡ true) → a ≡ b
-iff true b f g = sym (f refl)
-iff false true f g = g refl
-iff false false f g = refl
-
--- the digits of a row's number and detail tell it from every other
-abbrev told : ℕ → ℕ → Row → Bool
-told number detail r =
-    ltb number 100 && ltb detail 10 && eqb (48 + r.number / 10) (48 + number / 10) && eqb (48 + r.number % 10) (48 + number % 10) &&
-    eqb (48 + r.detail) (48 + detail)
-
-digits_tell : (number detail : ℕ) (r : Row) → r.number < 100 → r.detail < 10 → told number detail r ≡ is_of number detail r
-digits_tell number detail r hn hd = iff (told number detail r) (is_of number detail r) there back
-  where
-    there : told number detail r ≡ true → is_of number detail r ≡ true
-    there h =
-        let small = ltb number 100 && ltb detail 10 in
-        let same_tens = eqb (48 + r.number / 10) (48 + number / 10) in
-        let same_ones = eqb (48 + r.number % 10) (48 + number % 10) in
-        let p = both (small && same_tens && same_ones) (eqb (48 + r.detail) (48 + detail)) h in
-        let q = both (small && same_tens) same_ones p.0 in
-        let s = both small same_tens q.0 in
-        let below = both (ltb number 100) (ltb detail 10) s.0 in
-        let tens = eqb-true (48 + r.number / 10) (48 + number / 10) s.1 in
-        let ones = eqb-true (48 + r.number % 10) (48 + number % 10) q.1 in
-        let last = eqb-true (48 + r.detail) (48 + detail) p.1 in
-        rw (eq-eqb r.number number (omega (arith, tens, ones)), eq-eqb r.detail detail (omega (arith, last)))
-
-    back : is_of number detail r ≡ true → told number detail r ≡ true
-    back h =
-        let p = both (eqb r.number number) (eqb r.detail detail) h in
-        let e = eqb-true r.number number p.0 in
-        let f = eqb-true r.detail detail p.1 in
-        rw (
-          lt-ltb number 100 (omega (arith, e)),
-          lt-ltb detail 10 (omega (arith, f)),
-          eq-eqb (48 + r.number / 10) (48 + number / 10) (omega (arith, e)),
-          eq-eqb (48 + r.number % 10) (48 + number % 10) (omega (arith, e)),
-          eq-eqb (48 + r.detail) (48 + detail) (omega (arith, f)),
-        )
-
--- what the test of a line says where a row stands
-keyed_row : (text : List ℕ) (at number detail : ℕ) (r : Row) (rows : List Row) → drop at text ≡ coded (r ∷ rows) → plain r ≡ true →
-    keyed number detail text at ≡ is_of number detail r
-keyed_row text at number detail r rows e h =
-    let p = parts_of r h in
-    rw (
-      ap (λ (i : ℕ). get_or text i 0) (add-zero at) ∙ byte_at text (coded (r ∷ rows)) at 0 e,
-      byte_at text (coded (r ∷ rows)) at 1 e,
-      byte_at text (coded (r ∷ rows)) at 3 e,
+pub filled_within : (n : ℕ) (text : List ℕ) (i : ℕ) → i < length text →
+    length (filled n (take i text)) + length (shown n (get_or text i 0)) ≤ length (filled n text)
+filled_within n [] i h = absurd (omega arith)
+filled_within n (byte ∷ bytes) zero h = omega (arith, length-append (shown n byte) (filled n bytes))
+filled_within n (byte ∷ bytes) (suc i) h =
+    omega (
+      arith,
+      length-append (shown n byte) (filled n bytes),
+      length-append (shown n byte) (filled n (take i bytes)),
+      filled_within n bytes i (omega arith),
     )
-    (digits_tell number detail r p.0 p.1)
+
+-- an arm of the table is the first row with its number and detail
+pub arm : {number detail n d : ℕ} {words : List ℕ} → number ≡ n → detail ≡ d → words ≡ ascii (words_in table n d) →
+    words ≡ ascii (words_in table number detail)
+arm e f h = rw (e, f) h
+
+-- a number is none of these, as the arms of a `match` say it one after another
+abbrev Missed : ℕ → List ℕ → Type 0
+Missed k [] = Unit {0}
+Missed k (n ∷ ns) = Missed k ns × (k ≡ n → ⊥)
+
+-- the details of a number's rows, and the numbers that have rows, the last one first
+abbrev details : ℕ → List Row → List ℕ → List ℕ
+details n [] seen = seen
+details n (r ∷ rows) seen = details n rows (cond (eqb r.number n) (r.detail ∷ seen) seen)
+
+abbrev numbers : List Row → List ℕ → List ℕ
+numbers [] seen = seen
+numbers (r ∷ rows) seen = numbers rows (cond (among seen r.number) seen (r.number ∷ seen))
+
+missed_detail : (n k : ℕ) (rows : List Row) (seen : List ℕ) → Missed k (details n rows seen) → Missed k seen
+missed_detail n k [] seen h = h
+missed_detail n k (r ∷ rows) seen h =
+    by_number (eqb r.number n) (missed_detail n k rows (cond (eqb r.number n) (r.detail ∷ seen) seen) h)
   where
-    add-zero : (n : ℕ) → n ≡ n + 0
-    add-zero n = omega arith
+    by_number : (b : Bool) → Missed k (cond b (r.detail ∷ seen) seen) → Missed k seen
+    by_number true m = m.0
+    by_number false m = m
 
--- after a row comes the next one
-after_row : (r : Row) (rows : List Row) → plain r ≡ true → after_line (coded (r ∷ rows)) ≡ coded rows
-after_row r rows h =
-    rw (digit (r.number / 10), digit (r.number % 10), digit r.detail) (after_line_lem (ascii r.words) (coded rows) (parts_of r h).2)
-
--- a place before the end has a row
-pub room_for_row : (text : List ℕ) (at number detail : ℕ) → Left text at number detail → at < length text → at + 6 ≤ length text
-room_for_row text at number detail left h = by_rows left.rows left.stands
+no_detail : (n k : ℕ) (rows : List Row) (seen : List ℕ) → Missed k (details n rows seen) → words_in rows n k ≡ other_words
+no_detail n k [] seen h = refl
+no_detail n k (r ∷ rows) seen h =
+    let now = cond (eqb r.number n) (r.detail ∷ seen) seen in
+    by_number (eqb r.number n) (missed_detail n k rows now h) (no_detail n k rows now h)
   where
-    by_rows : (rows : List Row) → drop at text ≡ coded rows → at + 6 ≤ length text
-    by_rows [] e = absurd (omega (arith, length-drop at text, ap length e))
-    by_rows (r ∷ rows) e = omega (arith, length-drop at text, ap length e, row_length r rows)
+    by_number : (b : Bool) → Missed k (cond b (r.detail ∷ seen) seen) → words_in rows n k ≡ other_words →
+        cond (b && eqb r.detail k) r.words (words_in rows n k) ≡ other_words
+    by_number true m w = rw (ne_eqb r.detail k (λ (e : r.detail ≡ k). m.1 (sym e))) w
+    by_number false m w = w
 
--- the row is the one: its words begin five bytes on
-pub found : (text : List ℕ) (at number detail : ℕ) → Left text at number detail → at < length text → keyed number detail text at ≡ true →
-    words_at text (at + 5) ≡ ascii (words_in table number detail)
-found text at number detail left h k = by_rows left.rows left.stands left.right ∙ ap ascii (sym left.same)
+missed_among : (k : ℕ) (ns : List ℕ) (n : ℕ) → Missed k ns → among ns n ≡ true → n ≡ k → ⊥
+missed_among k [] n m h e = let z : ◌≡◌ {A = ℕ} 0 1 = cc in absurd (omega arith)
+missed_among k (x ∷ ns) n m h e = by_first (eqb x n) refl h (λ (t : among ns n ≡ true). missed_among k ns n m.0 t e)
   where
-    by_rows : (rows : List Row) → drop at text ≡ coded rows → plains rows ≡ true → words_at text (at + 5) ≡ ascii (words_in rows number detail)
-    by_rows [] e p = absurd (omega (arith, length-drop at text, ap length e))
-    by_rows (r ∷ rows) e p =
-        let here = (both (plain r) (plains rows) p).0 in
-        let most : at + 5 < length text = omega (arith, length-drop at text, ap length e, row_length r rows) in
-        rw (lt-ltb (at + 5) (length text) most, sym (keyed_row text at number detail r rows e here) ∙ k)
-        (ap of_line (sym (drop-drop 5 at text) ∙ ap (drop 5) e) ∙ of_line_lem (ascii r.words) (coded rows) (parts_of r here).2)
+    by_first : (b : Bool) → eqb x n ≡ b → (b || among ns n) ≡ true → (among ns n ≡ true → ⊥) → ⊥
+    by_first true f t rest = m.1 (sym e ∙ sym (eqb-true x n f))
+    by_first false f t rest = rest t
 
--- the row is another: the search goes on behind it
-pub passed : (text : List ℕ) (at next number detail : ℕ) → Left text at number detail → at < length text → keyed number detail text at ≡ false →
-    drop next text ≡ after_line (drop at text) → next ≤ length text → Left text next number detail
-passed text at next number detail left h k d n = by_rows left.rows left.stands left.right left.same
+missed_number : (k : ℕ) (rows : List Row) (seen : List ℕ) → Missed k (numbers rows seen) → Missed k seen
+missed_number k [] seen h = h
+missed_number k (r ∷ rows) seen h =
+    by_seen (among seen r.number) (missed_number k rows (cond (among seen r.number) seen (r.number ∷ seen)) h)
   where
-    by_rows : (rows : List Row) → drop at text ≡ coded rows → plains rows ≡ true → words_in table number detail ≡ words_in rows number detail →
-        Left text next number detail
-    by_rows [] e p w = absurd (omega (arith, length-drop at text, ap length e))
-    by_rows (r ∷ rows) e p w =
-        let parts = both (plain r) (plains rows) p in
-        record {
-          rows = rows;
-          below = n;
-          stands = d ∙ ap after_line e ∙ after_row r rows parts.0;
-          right = parts.1;
-          same = w ∙ ap (λ (b : Bool). cond b r.words (words_in rows number detail)) (sym (keyed_row text at number detail r rows e parts.0) ∙ k);
-        }
+    by_seen : (b : Bool) → Missed k (cond b seen (r.number ∷ seen)) → Missed k seen
+    by_seen true m = m
+    by_seen false m = m.0
 
--- no row is left
-pub ended : (text : List ℕ) (at number detail : ℕ) → Left text at number detail → length text ≤ at →
-    words_at text at ≡ ascii (words_in table number detail)
-ended text at number detail left h = by_rows left.rows left.stands ∙ ap ascii (sym left.same)
+no_number : (k d : ℕ) (rows : List Row) (seen : List ℕ) → Missed k (numbers rows seen) → words_in rows k d ≡ other_words
+no_number k d [] seen h = refl
+no_number k d (r ∷ rows) seen h =
+    let now = cond (among seen r.number) seen (r.number ∷ seen) in
+    let m = missed_number k rows now h in
+    rw (ne_eqb r.number k (by_seen (among seen r.number) refl m)) (no_number k d rows now h)
   where
-    by_rows : (rows : List Row) → drop at text ≡ coded rows → words_at text at ≡ ascii (words_in rows number detail)
-    by_rows [] e = rw (le-ltb at (length text) h)
-    by_rows (r ∷ rows) e = absurd (omega (arith, length-drop at text, ap length e, row_length r rows))
+    by_seen : (b : Bool) → among seen r.number ≡ b → Missed k (cond b seen (r.number ∷ seen)) → r.number ≡ k → ⊥
+    by_seen true t m e = missed_among k seen r.number m t e
+    by_seen false t m e = m.1 (sym e)
 
--- the next line: the search for its line feed
-pub feed : (text : List ℕ) (at : ℕ) → at < length text → get_or text at 0 ≡ 10 → drop (at + 1) text ≡ after_line (drop at text)
-feed text at h e = rw (drop-cons text at 0 h, e, add-one at)
+-- no row has this detail of its number, or this number
+pub none_at : {number : ℕ} (n detail : ℕ) → number ≡ n → Missed detail (details n table []) →
+    ascii other_words ≡ ascii (words_in table number detail)
+none_at n detail e h = rw (e, no_detail n detail table [] h) refl
 
-pub no_feed : (text : List ℕ) (at : ℕ) → at < length text → (get_or text at 0 ≡ 10 → ⊥) → after_line (drop at text) ≡ after_line (drop (at + 1) text)
-no_feed text at h e = rw (drop-cons text at 0 h, ne_eqb (get_or text at 0) 10 e, add-one at)
-
-pub over : (text : List ℕ) (at : ℕ) → length text ≤ at → drop at text ≡ after_line (drop at text)
-over text at h = rw (drop_of_length-le text h)
-
--- a text shown byte by byte: what is left of its line
-abbrev pub left_of : ℕ → List ℕ → ℕ → List ℕ
-left_of n text i = filled n (of_line (drop i text))
-
-pub show_on : (n : ℕ) (text : List ℕ) (i : ℕ) → i < length text → (get_or text i 0 ≡ 10 → ⊥) →
-    left_of n text i ≡ shown n (get_or text i 0) ++ left_of n text (i + 1)
-show_on n text i h e = rw (drop-cons text i 0 h, ne_eqb (get_or text i 0) 10 e, add-one i)
-
-pub show_feed : (n : ℕ) (text : List ℕ) (i : ℕ) → i < length text → get_or text i 0 ≡ 10 → left_of n text i ≡ []
-show_feed n text i h e = rw (drop-cons text i 0 h, e)
-
-pub show_over : (n : ℕ) (text : List ℕ) (i : ℕ) → length text ≤ i → left_of n text i ≡ []
-show_over n text i h = rw (drop_of_length-le text h)
-
--- what the search gives: the words' line before the end, those of no row at it
-pub line_there : (text : List ℕ) (at : ℕ) (words : List ℕ) → words_at text at ≡ words → at < length text →
-    of_line (take (length text - at) (drop at text)) ≡ words
-line_there text at words e h =
-    ap of_line (take_all (length text - at) (drop at text) (omega (arith, length-drop at text)))
-    ∙ sym (ap (λ (b : Bool). cond b (of_line (drop at text)) (ascii other_words)) (lt-ltb at (length text) h)) ∙ e
-
-pub none_there : (text : List ℕ) (at : ℕ) (words : List ℕ) → words_at text at ≡ words → length text ≤ at → of_line (ascii other_words) ≡ words
-none_there text at words e h =
-    of_whole (ascii other_words) refl ∙ sym (ap (λ (b : Bool). cond b (of_line (drop at text)) (ascii other_words)) (le-ltb at (length text) h)) ∙ e
+pub none_of : (number detail : ℕ) → Missed number (numbers table []) → ascii other_words ≡ ascii (words_in table number detail)
+none_of number detail h = ap ascii (sym (no_number number detail table [] h))

@@ -1,8 +1,8 @@
 -- The verdict's line in bytes: 01, "`verdict` .. prints one line".
-use Rattle.std.specs.Prelude.{ℕ, zero, suc, ◌+◌, ◌-◌, ◌/◌, ◌%◌, ◌≤◌, ◌≡◌, cond, List, [], ◌∷◌, ◌++◌, ltb, length, replicate, take, Ok, Err}
+use Rattle.std.specs.Prelude.{ℕ, zero, suc, ◌+◌, ◌/◌, ◌%◌, ◌≤◌, ◌≡◌, cond, List, [], ◌∷◌, ◌++◌, ltb, length, Ok, Err}
 use Rattle.histories.specs.Answers.{Answer}
 use Rattle.endings.specs.Endings.{ascii, ending_word}
-use Rattle.lines.specs.declared.Line.{Line}
+use Rattle.lines.specs.declared.text.Text.{Text}
 
 -- a number's digits, at most `most` of them: those of the number divided by ten, where that is not 0, then the last one
 abbrev pub digits : ℕ → ℕ → List ℕ
@@ -26,12 +26,7 @@ line_of (Ok accepted) =
 line_of (Err refused) =
     spaced (ascii "no" ∷ decimal refused.number ∷ decimal refused.place ∷ decimal refused.divergence ∷ decimal refused.calls ∷ [])
 
--- a line that holds these bytes: they come first, and zeros after them
-abbrev pub holding : List ℕ → Line
-holding bytes = record { bytes = bytes ++ replicate (128 - length bytes) 0; len = length bytes }
-
--- a line is this one: every byte is fixed. The other two parts follow from that; callers that read a line's bytes use them.
-pub record Holds (line : Line) (bytes : List ℕ) : Type 0 where
-  pub whole : line ≡ holding bytes
-  pub fits : line.len ≤ length line.bytes
-  pub counts : line.len ≡ length (take line.len line.bytes)
+-- a line is this one. A clause sees a line as its bytes; `holding` says what those tell of the rest of it
+pub record Holds (line : Text 128) (bytes : List ℕ) : Type 0 where
+  pub whole : line ≡ bytes
+  pub fits : length line ≤ 128

@@ -11,7 +11,7 @@ ghost use Rattle.lines.specs.Columns.{failed_column, board_word, board_column};
 use crate::{Line, words};
 use clocks::ClockCapability;
 use endings::Ending;
-use files::{Entry, JournalRead, PlanRead};
+use files::Entry;
 use histories::Answer;
 
 // A text alone.
@@ -19,14 +19,19 @@ fn text(bytes: &[u8]) -> Line
     requires { length bytes.now ≤ 128 }
     ensures { Holds result bytes.now }
 {
-    crate::write(crate::empty(), bytes)
+    let mut line = Line::empty();
+    line.write(bytes);
+    line
 }
 
 // A number alone.
+#[tactic(auto, using(crate::proofs::Decimal::twenty))]
 fn bare(n: u64) -> Line
     ensures { Holds result (decimal n) }
 {
-    crate::number(crate::empty(), n)
+    let mut line = Line::empty();
+    line.number(n);
+    line
 }
 
 // The run number.
@@ -35,8 +40,8 @@ pub fn run_of(journal: &[u8]) -> Line
     ensures { Holds result (run_column journal.now) }
 {
     match files::reading::read_journal(journal) {
-        JournalRead::Refused { number, place } => text(b""),
-        JournalRead::Readable { run, count } => bare(run.0),
+        Ok(head) => bare(head.run.0),
+        Err(_) => text(b""),
     }
 }
 
@@ -46,26 +51,17 @@ pub fn state_of(answer: Answer) -> Line
     ensures { Holds result (state_column answer) }
 {
     match answer {
-        Ok(Accepted {
-            ending,
-            stop,
-            records,
-            calls,
-            failed,
-        }) => ended(ending),
-        Err(Refused {
-            number,
-            place,
-            divergence,
-            calls,
-        }) => text(b"refused"),
+        Ok(accepted) => ended(accepted.ending),
+        Err(_) => text(b"refused"),
     }
 }
 
 fn ended(ending: Ending) -> Line
     ensures { Holds result (ending_word ending) }
 {
-    crate::word(crate::empty(), ending)
+    let mut line = Line::empty();
+    line.word(ending);
+    line
 }
 
 // The step that is to run.
@@ -74,19 +70,8 @@ pub fn step_of(answer: Answer) -> Line
     ensures { Holds result (step_column answer) }
 {
     match answer {
-        Ok(Accepted {
-            ending,
-            stop,
-            records,
-            calls,
-            failed,
-        }) => stop_at(ending, stop),
-        Err(Refused {
-            number,
-            place,
-            divergence,
-            calls,
-        }) => text(b""),
+        Ok(accepted) => stop_at(accepted.ending, accepted.stop),
+        Err(_) => text(b""),
     }
 }
 
@@ -106,8 +91,8 @@ pub fn steps_of(plan: &[u8]) -> Line
     ensures { Holds result (steps_column plan.now) }
 {
     match files::reading::read_plan(plan) {
-        PlanRead::Refused { number, place } => text(b""),
-        PlanRead::Readable { capability, count } => bare(count as u64),
+        Ok(head) => bare(head.count as u64),
+        Err(_) => text(b""),
     }
 }
 
@@ -117,19 +102,8 @@ pub fn what_of(plan: &[u8], answer: Answer) -> Line
     ensures { Holds result (what_column plan.now answer) }
 {
     match answer {
-        Ok(Accepted {
-            ending,
-            stop,
-            records,
-            calls,
-            failed,
-        }) => what_at(plan, ending, stop),
-        Err(Refused {
-            number,
-            place,
-            divergence,
-            calls,
-        }) => text(b""),
+        Ok(accepted) => what_at(plan, accepted.ending, accepted.stop),
+        Err(_) => text(b""),
     }
 }
 
@@ -147,16 +121,12 @@ fn what_at(plan: &[u8], ending: Ending, stop: u64) -> Line
 fn what_is(e: Entry) -> Line
     ensures { Holds result (entry_text e) }
 {
-    if e.kind == 2 {
-        return words::fill(b"effect #", e.a as u64);
+    match e.kind {
+        2 => words::fill(b"effect #", e.a as u64),
+        5 => timer(e),
+        9 => gate(e),
+        _ => text(b""),
     }
-    if e.kind == 5 {
-        return timer(e);
-    }
-    if e.kind == 9 {
-        return gate(e);
-    }
-    text(b"")
 }
 
 fn timer(e: Entry) -> Line
@@ -172,8 +142,10 @@ fn timer(e: Entry) -> Line
 fn gate(e: Entry) -> Line
     ensures { Holds result (gate_text e) }
 {
-    let named = words::fill(b"gate #", e.a as u64);
-    crate::number(crate::write(named, b" version "), e.d)
+    let mut line = words::fill(b"gate #", e.a as u64);
+    line.write(b" version ");
+    line.number(e.d);
+    line
 }
 
 // The failed steps.
@@ -182,19 +154,8 @@ pub fn failed_of(answer: Answer) -> Line
     ensures { Holds result (failed_column answer) }
 {
     match answer {
-        Ok(Accepted {
-            ending,
-            stop,
-            records,
-            calls,
-            failed,
-        }) => bare(failed),
-        Err(Refused {
-            number,
-            place,
-            divergence,
-            calls,
-        }) => text(b""),
+        Ok(accepted) => bare(accepted.failed),
+        Err(_) => text(b""),
     }
 }
 
@@ -204,8 +165,8 @@ pub fn board_of(plan: &[u8]) -> Line
     ensures { Holds result (board_column plan.now) }
 {
     match files::reading::read_plan(plan) {
-        PlanRead::Refused { number, place } => text(b""),
-        PlanRead::Readable { capability, count } => board(capability),
+        Ok(head) => board(head.capability),
+        Err(_) => text(b""),
     }
 }
 

@@ -6,114 +6,93 @@
 
 pub mod columns;
 pub mod telling;
+mod text;
 pub mod words;
 
 ghost use Rattle.std.specs.Prelude.{◌≡◌, [], ◌∷◌, ◌++◌, ◌+◌, ◌≤◌, ◌<◌, length};
 ghost use Rattle.endings.specs.Endings.{ending_word};
-ghost use Rattle.lines.specs.Line.{decimal, spaced, line_of, holding, Holds};
+ghost use Rattle.lines.specs.Line.{decimal, spaced, line_of, Holds};
 ghost use Rattle.lines.specs.Words.{version_line};
-ghost use Rattle.lines.specs.Writing.{pushed, written};
 
 use endings::Ending;
-use histories::Answer;
+use histories::{Accepted, Answer, Refused};
+pub use text::Text;
 
-// Bytes, of which the first `len` are the line.
-#[derive(Clone, Copy)]
-pub struct Line {
-    pub bytes: [u8; 128],
-    pub len: usize,
-}
+// A line has room for the longest that any answer has.
+pub type Line = Text<128>;
 
-pub(crate) fn push(line: Line, byte: u8) -> Line
-    requires { line.len < 128 }
-    ensures value { result ≡ pushed line byte }
-    ensures len_value { result.len ≡ line.len + 1 }
-{
-    let at = line.len;
-    let mut bytes = line.bytes;
-    bytes[at] = byte;
-    Line { bytes, len: at + 1 }
-}
-
-pub(crate) fn write(line: Line, text: &[u8]) -> Line
-    requires { line.len + length text.now ≤ 128 }
-    ensures value { result ≡ written line text.now }
-    ensures len_value { result.len ≡ line.len + length text.now }
-{
-    let mut next = line;
-    let mut i = 0;
-    while i < text.len() {
-        next = push(next, text[i]);
-        i += 1;
+impl Line {
+    // The digits of a number: those of the number divided by ten, where that is not 0, then the last one.
+    pub(crate) fn number(&mut self, n: u64)
+        requires { length self.old + length (decimal n) ≤ 128 }
+        ensures value { self.new ≡ self.old ++ decimal n }
+        ensures len_bound { length self.new ≤ length self.old + 20 }
+    {
+        if n >= 10 {
+            self.number(n / 10);
+        }
+        self.push(48 + (n % 10) as u8);
     }
-    next
-}
 
-// The digits of a number: those of the number divided by ten, where that is not 0, then the last one.
-pub(crate) fn number(line: Line, n: u64) -> Line
-    requires { line.len + length (decimal n) ≤ 128 }
-    ensures { result ≡ written line (decimal n) }
-{
-    if n < 10 {
-        return push(line, 48 + n as u8);
+    // A number and the byte that ends its field.
+    #[tactic(auto, using(crate::proofs::Decimal::twenty))]
+    fn field(&mut self, n: u64, end: u8)
+        requires { length self.old + 21 ≤ 128 }
+        ensures value { self.new ≡ self.old ++ (decimal n ++ end ∷ []) }
+        ensures len_bound { length self.new ≤ length self.old + 21 }
+    {
+        self.number(n);
+        self.push(end);
     }
-    push(number(line, n / 10), 48 + (n % 10) as u8)
-}
 
-// A number and the byte that ends its field.
-fn field(line: Line, n: u64, end: u8) -> Line
-    requires { line.len + 21 ≤ 128 }
-    ensures value { result ≡ written line (decimal n ++ (end ∷ [])) }
-    ensures len_bound { result.len ≤ line.len + 21 }
-{
-    push(number(line, n), end)
-}
+    // The last three fields, which are numbers in every line.
+    fn numbers(&mut self, a: u64, b: u64, c: u64)
+        requires { length self.old + 63 ≤ 128 }
+        ensures value { self.new ≡ self.old ++ spaced (decimal a ∷ decimal b ∷ decimal c ∷ []) }
+        ensures len_bound { length self.new ≤ length self.old + 63 }
+    {
+        self.field(a, b' ');
+        self.field(b, b' ');
+        self.field(c, b'\n');
+    }
 
-// The last three fields, which are numbers in every line.
-fn numbers(line: Line, a: u64, b: u64, c: u64) -> Line
-    requires { line.len + 63 ≤ 128 }
-    ensures value { result ≡ written line (spaced (decimal a ∷ decimal b ∷ decimal c ∷ [])) }
-    ensures len_bound { result.len ≤ line.len + 63 }
-{
-    field(field(field(line, a, b' '), b, b' '), c, b'\n')
-}
-
-pub(crate) fn word(line: Line, ending: Ending) -> Line
-    requires { line.len + 9 ≤ 128 }
-    ensures value { result ≡ written line (ending_word ending) }
-    ensures len_bound { result.len ≤ line.len + 9 }
-{
-    match ending {
-        Ending::Unstarted => write(line, b"unstarted"),
-        Ending::Due => write(line, b"due"),
-        Ending::Done => write(line, b"done"),
-        Ending::Open => write(line, b"open"),
-        Ending::Finished => write(line, b"finished"),
+    pub(crate) fn word(&mut self, ending: Ending)
+        requires { length self.old + 9 ≤ 128 }
+        ensures value { self.new ≡ self.old ++ ending_word ending }
+        ensures len_bound { length self.new ≤ length self.old + 9 }
+    {
+        match ending {
+            Ending::Unstarted => self.write(b"unstarted"),
+            Ending::Due => self.write(b"due"),
+            Ending::Done => self.write(b"done"),
+            Ending::Open => self.write(b"open"),
+            Ending::Finished => self.write(b"finished"),
+        }
     }
 }
 
-pub(crate) fn empty() -> Line
-    ensures value { result ≡ holding [] }
-    ensures len_value { result.len ≡ 0 }
+#[tactic(auto, unfolding(crate::specs::Line::line_of))]
+fn accepted(answer: Accepted) -> Line
+    ensures { Holds result (line_of (Ok answer)) }
 {
-    Line {
-        bytes: [0; 128],
-        len: 0,
-    }
+    let mut line = Line::empty();
+    line.write(b"ok ");
+    line.word(answer.ending);
+    line.push(b' ');
+    line.field(answer.stop, b' ');
+    line.numbers(answer.records, answer.calls, answer.failed);
+    line
 }
 
-fn accepted(ending: Ending, stop: u64, records: u64, calls: u64, failed: u64) -> Line
-    ensures { Holds result (line_of (answer_ok ending stop records calls failed)) }
+#[tactic(auto, unfolding(crate::specs::Line::line_of))]
+fn refused(answer: Refused) -> Line
+    ensures { Holds result (line_of (Err answer)) }
 {
-    let said = push(word(write(empty(), b"ok "), ending), b' ');
-    numbers(field(said, stop, b' '), records, calls, failed)
-}
-
-fn refused(number: u64, place: u64, divergence: u64, calls: u64) -> Line
-    ensures { Holds result (line_of (answer_no number place divergence calls)) }
-{
-    let said = field(write(empty(), b"no "), number, b' ');
-    numbers(said, place, divergence, calls)
+    let mut line = Line::empty();
+    line.write(b"no ");
+    line.field(answer.number, b' ');
+    line.numbers(answer.place, answer.divergence, answer.calls);
+    line
 }
 
 // The line of an answer.
@@ -121,19 +100,8 @@ pub fn line_of(answer: Answer) -> Line
     ensures { Holds result (line_of answer) }
 {
     match answer {
-        Ok(Accepted {
-            ending,
-            stop,
-            records,
-            calls,
-            failed,
-        }) => accepted(ending, stop, records, calls, failed),
-        Err(Refused {
-            number,
-            place,
-            divergence,
-            calls,
-        }) => refused(number, place, divergence, calls),
+        Ok(answer) => accepted(answer),
+        Err(answer) => refused(answer),
     }
 }
 
@@ -141,5 +109,7 @@ pub fn line_of(answer: Answer) -> Line
 pub fn version() -> Line
     ensures { Holds result version_line }
 {
-    write(empty(), b"hiskurdo 0.2.0\n")
+    let mut line = Line::empty();
+    line.write(b"hiskurdo 0.2.0\n");
+    line
 }

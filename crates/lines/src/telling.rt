@@ -1,32 +1,31 @@
 // What `words_of` asks for beside the answer: the kind of the one entry that tells apart the words, and the number that they show.
-ghost use Rattle.std.specs.Prelude.{◌≡◌};
+ghost use Rattle.std.specs.Prelude.{◌≡◌, cond, eqb};
 ghost use Rattle.lines.specs.Telling.{entry_before, ending_kind, refused_kind, ending_shown, step_next, refused_shown, telling_of};
 
 use crate::words::Telling;
 use endings::Ending;
 use files::Entry;
-use histories::Answer;
+use histories::{Accepted, Answer};
 
 // The record before a place; before the first there is none.
 fn entry_before(journal: &[u8], place: u64) -> Entry
     ensures { result ≡ entry_before journal.now place }
 {
     if place == 0 {
-        return files::kinds::no_entry();
+        files::kinds::no_entry()
+    } else {
+        files::kinds::entry_of(journal, place - 1)
     }
-    files::kinds::entry_of(journal, place - 1)
 }
 
 // The kind of the step at the stop, or of the record that ended the run.
-fn ending_kind(journal: &[u8], plan: &[u8], ending: Ending, stop: u64, records: u64) -> u8
-    ensures { result ≡ ending_kind journal.now plan.now ending stop records }
+fn ending_kind(journal: &[u8], plan: &[u8], at: Accepted) -> u8
+    ensures { result ≡ ending_kind journal.now plan.now at.ending at.stop at.records }
 {
-    match ending {
-        Ending::Unstarted => 0,
-        Ending::Due => files::kinds::kind_of(plan, stop),
-        Ending::Done => 0,
-        Ending::Open => files::kinds::kind_of(plan, stop),
-        Ending::Finished => entry_before(journal, records).kind,
+    match at.ending {
+        Ending::Unstarted | Ending::Done => 0,
+        Ending::Due | Ending::Open => files::kinds::kind_of(plan, at.stop),
+        Ending::Finished => entry_before(journal, at.records).kind,
     }
 }
 
@@ -34,34 +33,34 @@ fn ending_kind(journal: &[u8], plan: &[u8], ending: Ending, stop: u64, records: 
 fn refused_kind(journal: &[u8], number: u64, place: u64) -> u8
     ensures { result ≡ refused_kind journal.now number place }
 {
-    if number == 24 {
-        return entry_before(journal, place).kind;
+    match number {
+        24 => entry_before(journal, place).kind,
+        31 => files::kinds::kind_of(journal, place),
+        _ => 0,
     }
-    if number == 31 {
-        return files::kinds::kind_of(journal, place);
-    }
-    0
 }
 
 // The number that an ending shows: the stop, or the gate where one is due.
 fn ending_shown(plan: &[u8], ending: Ending, stop: u64) -> u64
     ensures { result ≡ ending_shown plan.now ending stop }
 {
-    let step = files::kinds::entry_of(plan, stop);
-    if (ending.number() == 1) & (step.kind == 9) {
-        return step.a as u64;
+    match ending {
+        Ending::Due => due_shown(files::kinds::entry_of(plan, stop), stop),
+        Ending::Unstarted | Ending::Done | Ending::Open | Ending::Finished => stop,
     }
-    stop
+}
+
+fn due_shown(step: Entry, stop: u64) -> u64
+    ensures { result ≡ cond (eqb step.kind 9) step.a stop }
+{
+    if step.kind == 9 { step.a as u64 } else { stop }
 }
 
 // The step that comes after a record: the start, or one that closes a step.
 fn step_next(e: Entry) -> u64
     ensures { result ≡ step_next e }
 {
-    if e.kind == 1 {
-        return 0;
-    }
-    (e.s as u64) + 1
+    if e.kind == 1 { 0 } else { (e.s as u64) + 1 }
 }
 
 // The number that a refusal shows: the place, or for 45 the step at which the run was completed.
@@ -69,9 +68,10 @@ fn refused_shown(journal: &[u8], number: u64, place: u64) -> u64
     ensures { result ≡ refused_shown journal.now number place }
 {
     if number == 45 {
-        return step_next(entry_before(journal, place));
+        step_next(entry_before(journal, place))
+    } else {
+        place
     }
-    place
 }
 
 // What `words_of` asks for beside the answer.
@@ -79,24 +79,13 @@ pub fn telling(journal: &[u8], plan: &[u8], answer: Answer) -> Telling
     ensures { result ≡ telling_of journal.now plan.now answer }
 {
     match answer {
-        Ok(Accepted {
-            ending,
-            stop,
-            records,
-            calls,
-            failed,
-        }) => Telling {
-            kind: ending_kind(journal, plan, ending, stop, records),
-            number: ending_shown(plan, ending, stop),
+        Ok(accepted) => Telling {
+            kind: ending_kind(journal, plan, accepted),
+            number: ending_shown(plan, accepted.ending, accepted.stop),
         },
-        Err(Refused {
-            number,
-            place,
-            divergence,
-            calls,
-        }) => Telling {
-            kind: refused_kind(journal, number, place),
-            number: refused_shown(journal, number, place),
+        Err(refused) => Telling {
+            kind: refused_kind(journal, refused.number, refused.place),
+            number: refused_shown(journal, refused.number, refused.place),
         },
     }
 }

@@ -1,10 +1,8 @@
 // What an answer means in plain words: what to do, or which line of the field engineer's checklist failed, and where.
-ghost use Rattle.std.specs.Prelude.{◌≡◌, cond, ◌+◌, ◌≤◌, ◌<◌, length, drop};
+ghost use Rattle.std.specs.Prelude.{◌≡◌, cond, ◌+◌, ◌++◌, ◌≤◌, length};
 ghost use Rattle.endings.specs.Endings.{ascii, still_to_run};
 ghost use Rattle.lines.specs.Line.{Holds};
-ghost use Rattle.lines.specs.Writing.{written};
-ghost use Rattle.lines.specs.Words.{table, words_in, filled, shown, ending_detail, ending_words, detail_of, words_of, resume_of};
-ghost use Rattle.lines.specs.Rows.{coded, after_line, of_line, keyed, words_at};
+ghost use Rattle.lines.specs.Words.{table, words_in, filled, shown, ending_detail, tells_failed, ending_words, detail_of, words_of, resume_of};
 
 use crate::Line;
 use endings::Ending;
@@ -17,153 +15,92 @@ pub struct Telling {
     pub number: u64,
 }
 
-// Where the next line begins, or the end.
-fn next_line(text: &[u8], from: usize) -> usize
-    requires { from < length text.now }
-    ensures text_value { drop result text.now ≡ after_line (drop from text.now) }
-    ensures lower_bound { (from < result) × (result ≤ length text.now) }
-{
-    let mut at = from;
-    while at < text.len() {
-        if text[at] == b'\n' {
-            return at + 1;
-        }
-        at += 1;
-    }
-    at
-}
-
-// Whether the line at this place has this number and detail.
-fn is_of(text: &[u8], at: usize, number: u64, detail: u64) -> bool
-    requires { at + 4 ≤ length text.now }
-    ensures { result ≡ keyed number detail text.now at }
-{
-    if number >= 100 {
-        return false;
-    }
-    if detail >= 10 {
-        return false;
-    }
-    let tens = 48 + (number / 10) as u8;
-    let ones = 48 + (number % 10) as u8;
-    let last = 48 + detail as u8;
-    (text[at] == tens) & (text[at + 1] == ones) & (text[at + 3] == last)
-}
-
-// Where the words of this number and detail begin, or the end.
-fn find(text: &[u8], number: u64, detail: u64) -> usize
-    requires { text.now ≡ coded table }
-    ensures result_value { words_at text.now result ≡ ascii (words_in table number detail) }
-    ensures upper_bound { result ≤ length text.now }
-{
-    let mut at = 0;
-    while at < text.len() {
-        if is_of(text, at, number, detail) {
-            return at + 5;
-        }
-        at = next_line(text, at);
-    }
-    at
-}
-
 // One byte of a text, or the number in the place of `#`.
-fn show(line: Line, byte: u8, n: u64) -> Line
-    requires { line.len + length (shown n byte) ≤ 128 }
-    ensures { result ≡ written line (shown n byte) }
+fn show(line: &mut Line, byte: u8, n: u64)
+    requires { length line.old + length (shown n byte) ≤ 128 }
+    ensures { line.new ≡ line.old ++ shown n byte }
 {
     if byte == b'#' {
-        crate::number(line, n)
+        line.number(n);
     } else {
-        crate::push(line, byte)
+        line.push(byte);
     }
 }
 
-// A text up to the end of its line, with the number in its place.
+// A text with the number in its place.
 pub(crate) fn fill(text: &[u8], n: u64) -> Line
-    requires { length (filled n (of_line text.now)) ≤ 128 }
-    ensures { Holds result (filled n (of_line text.now)) }
+    requires { length (filled n text.now) ≤ 128 }
+    ensures { Holds result (filled n text.now) }
 {
-    let mut line = crate::empty();
-    let mut i = 0;
-    while i < text.len() {
-        let byte = text[i];
-        if byte == b'\n' {
-            return line;
-        }
-        line = show(line, byte, n);
-        i += 1;
+    let mut line = Line::empty();
+    for byte in text {
+        show(&mut line, *byte, n);
     }
     line
 }
 
-// The words of a number and detail, from the table, with the number in its place.
-fn worded(text: &[u8], number: u64, detail: u64, n: u64) -> Line
-    requires { text.now ≡ coded table }
-    ensures { Holds result (filled n (ascii (words_in table number detail))) }
+// The table: the number of a refusal (0 of an ending), the detail, the words; `#` stands for the number that is told.
+fn row(number: u64, detail: u64) -> &'static [u8]
+    ensures { result.now ≡ ascii (words_in table number detail) }
 {
-    let at = find(text, number, detail);
-    if at < text.len() {
-        fill(&text[at..], n)
-    } else {
-        fill(
-            b"No file can give this answer: keep both files and report them",
-            n,
-        )
+    match (number, detail) {
+        (0, 0) => b"Nothing to resume: the run was never started",
+        (0, 1) => b"Start step #",
+        (0, 2) => b"Nothing left to do: every step has its outcome or marker",
+        (0, 3) => b"Deliver step # again: it was begun and has no outcome",
+        (0, 4) => b"The run completed; whole steps: #",
+        (0, 5) => b"Arm the timer of step # again: it was armed and has not fired",
+        (0, 6) => b"The run failed; whole steps: #",
+        (0, 7) => b"Write the marker of gate #, with the version in the plan",
+        (1, 0) => b"Journal: missing, unreadable or under 16 bytes",
+        (2, 0) => b"Journal: over 32,768 bytes",
+        (3, 0) => b"Journal: not a journal file",
+        (4, 0) => b"Journal: more than 1,024 records",
+        (6, 0) => b"Journal: cut short or grown, its length is not what its header says",
+        (7, 0) => b"Journal: entry # has an unknown kind",
+        (8, 0) => b"Journal: entry # has a field above its greatest value",
+        (9, 0) => b"Journal: the bodies' lengths do not sum to the header's",
+        (11, 0) => b"Plan: missing, unreadable or under 16 bytes",
+        (12, 0) => b"Plan: over 32,768 bytes",
+        (13, 0) => b"Plan: not a plan file",
+        (14, 0) => b"Plan: more than 1,024 steps",
+        (15, 0) => b"Plan: it does not say which clocks the board has",
+        (16, 0) => b"Plan: cut short or grown, its length is not what its header says",
+        (17, 0) => b"Plan: entry # is no effect, no timer and no gate",
+        (18, 0) => b"Plan: entry # has a field that a plan may not have",
+        (19, 0) => b"Plan: the inputs' lengths do not sum to the header's",
+        (22, 1) =>
+            b"Steps carry consecutive numbers: record # has another number (a dispense lost or doubled)",
+        (22, 2) => b"Each step matches the plan: record # has another activity",
+        (22, 4) =>
+            b"Each step matches the plan: record # is of another kind (or a step before it was lost or doubled)",
+        (22, 5) => b"Each step matches the plan: record # is the marker of another gate or version",
+        (22, 6) => b"Each step matches the plan: record # has another clock or deadline",
+        (22, 8) => b"Each step matches the plan: record # has another input length",
+        (22, 9) => b"Each step matches the plan: record # has the same input length, another CRC",
+        (23, 0) => b"Recorded timers fit this board's clocks: the timer of record # does not",
+        (24, 0) => b"First record opens the run: record # does not (a file from another stage)",
+        (24, 1) =>
+            b"Steps carry consecutive numbers: record # cannot follow the one before it (lost or doubled)",
+        (24, 2) =>
+            b"An open step is never shown as done: record # is not the outcome of the step opened before it",
+        (25, 0) =>
+            b"Recorded timers fit this board's clocks: the next step's timer, due at record #, does not",
+        (31, 0) => b"Each step matches the plan: record # opens a step beyond the plan's last",
+        (31, 1) =>
+            b"Each step matches the plan: record # is a version marker after the plan's last step",
+        (44, 0) => b"Plan: entry # is a timer of 0: fill in the incubation",
+        (45, 0) =>
+            b"Each step matches the plan: the run was completed at step # of the plan, before its last",
+        _ => b"No file can give this answer: keep both files and report them",
     }
 }
 
-// A line of the table: the number (0 of an ending), the detail, the words; `#` stands for the number that is told.
+// The words of a number and detail, with the number that is told in its place.
 fn said(number: u64, detail: u64, n: u64) -> Line
     ensures { Holds result (filled n (ascii (words_in table number detail))) }
 {
-    worded(
-        b"\
-        00 0 Nothing to resume: the run was never started\n\
-        00 1 Start step #\n\
-        00 2 Nothing left to do: every step has its outcome or marker\n\
-        00 3 Deliver step # again: it was begun and has no outcome\n\
-        00 4 The run completed; whole steps: #\n\
-        00 5 Arm the timer of step # again: it was armed and has not fired\n\
-        00 6 The run failed; whole steps: #\n\
-        00 7 Write the marker of gate #, with the version in the plan\n\
-        01 0 Journal: missing, unreadable or under 16 bytes\n\
-        02 0 Journal: over 32,768 bytes\n\
-        03 0 Journal: not a journal file\n\
-        04 0 Journal: more than 1,024 records\n\
-        06 0 Journal: cut short or grown, its length is not what its header says\n\
-        07 0 Journal: entry # has an unknown kind\n\
-        08 0 Journal: entry # has a field above its greatest value\n\
-        09 0 Journal: the bodies' lengths do not sum to the header's\n\
-        11 0 Plan: missing, unreadable or under 16 bytes\n\
-        12 0 Plan: over 32,768 bytes\n\
-        13 0 Plan: not a plan file\n\
-        14 0 Plan: more than 1,024 steps\n\
-        15 0 Plan: it does not say which clocks the board has\n\
-        16 0 Plan: cut short or grown, its length is not what its header says\n\
-        17 0 Plan: entry # is no effect, no timer and no gate\n\
-        18 0 Plan: entry # has a field that a plan may not have\n\
-        19 0 Plan: the inputs' lengths do not sum to the header's\n\
-        22 1 Steps carry consecutive numbers: record # has another number (a dispense lost or doubled)\n\
-        22 2 Each step matches the plan: record # has another activity\n\
-        22 4 Each step matches the plan: record # is of another kind (or a step before it was lost or doubled)\n\
-        22 5 Each step matches the plan: record # is the marker of another gate or version\n\
-        22 6 Each step matches the plan: record # has another clock or deadline\n\
-        22 8 Each step matches the plan: record # has another input length\n\
-        22 9 Each step matches the plan: record # has the same input length, another CRC\n\
-        23 0 Recorded timers fit this board's clocks: the timer of record # does not\n\
-        24 0 First record opens the run: record # does not (a file from another stage)\n\
-        24 1 Steps carry consecutive numbers: record # cannot follow the one before it (lost or doubled)\n\
-        24 2 An open step is never shown as done: record # is not the outcome of the step opened before it\n\
-        25 0 Recorded timers fit this board's clocks: the next step's timer, due at record #, does not\n\
-        31 0 Each step matches the plan: record # opens a step beyond the plan's last\n\
-        31 1 Each step matches the plan: record # is a version marker after the plan's last step\n\
-        44 0 Plan: entry # is a timer of 0: fill in the incubation\n\
-        45 0 Each step matches the plan: the run was completed at step # of the plan, before its last\n\
-        ",
-        number,
-        detail,
-        n,
-    )
+    fill(row(number, detail), n)
 }
 
 // What tells apart the words of one ending: the kind of the step at the stop, or of the record that ended the run.
@@ -182,28 +119,34 @@ fn ending_detail(ending: Ending, kind: u8) -> u64
 fn detail_of(number: u64, place: u64, divergence: u64, kind: u8) -> u64
     ensures { result ≡ detail_of number place divergence kind }
 {
-    if number == 24 {
-        if place == 0 {
-            return 0;
-        }
-        if (2 == kind) | (5 == kind) {
-            return 2;
-        }
-        return 1;
+    match number {
+        24 if place == 0 => 0,
+        24 if (kind == 2) | (kind == 5) => 2,
+        24 => 1,
+        31 if kind == 9 => 1,
+        31 => 0,
+        _ => divergence,
     }
-    if number != 31 {
-        return divergence;
-    }
-    if kind == 9 { 1 } else { 0 }
 }
 
-// What an ending means, and how many steps failed: where one did, and of a run that is done in any case.
+// Whether the failed steps are told: where one did fail, and of a run that is done in any case.
+fn tells_failed(ending: Ending, failed: u64) -> bool
+    ensures { result ≡ tells_failed ending failed }
+{
+    match ending {
+        Ending::Done => true,
+        Ending::Unstarted | Ending::Due | Ending::Open | Ending::Finished => failed != 0,
+    }
+}
+
+// What an ending means, and how many steps failed, where that is told.
 fn ending_words(ending: Ending, n: u64, kind: u8, failed: u64) -> Line
     ensures { Holds result (ending_words ending n kind failed) }
 {
-    let line = said(0, ending_detail(ending, kind), n);
-    if (ending.number() == 2) | (failed != 0) {
-        return crate::number(crate::write(line, b"; failed steps: "), failed);
+    let mut line = said(0, ending_detail(ending, kind), n);
+    if tells_failed(ending, failed) {
+        line.write(b"; failed steps: ");
+        line.number(failed);
     }
     line
 }
@@ -213,23 +156,18 @@ fn ending_words(ending: Ending, n: u64, kind: u8, failed: u64) -> Line
 pub fn words_of(answer: Answer, telling: Telling) -> Line
     ensures { Holds result (words_of answer telling) }
 {
+    let n = telling.number;
     match answer {
-        Ok(Accepted {
-            ending,
-            stop,
-            records,
-            calls,
-            failed,
-        }) => ending_words(ending, telling.number, telling.kind, failed),
-        Err(Refused {
-            number,
-            place,
-            divergence,
-            calls,
-        }) => said(
-            number,
-            detail_of(number, place, divergence, telling.kind),
-            telling.number,
+        Ok(accepted) => ending_words(accepted.ending, n, telling.kind, accepted.failed),
+        Err(refused) => said(
+            refused.number,
+            detail_of(
+                refused.number,
+                refused.place,
+                refused.divergence,
+                telling.kind,
+            ),
+            n,
         ),
     }
 }
@@ -240,19 +178,8 @@ pub fn resume_of(answer: Answer) -> Line
     ensures { Holds result (resume_of answer) }
 {
     match answer {
-        Ok(Accepted {
-            ending,
-            stop,
-            records,
-            calls,
-            failed,
-        }) => resumed(ending, stop),
-        Err(Refused {
-            number,
-            place,
-            divergence,
-            calls,
-        }) => fill(b"no", 0),
+        Ok(accepted) => resumed(accepted.ending, accepted.stop),
+        Err(_) => fill(b"no", 0),
     }
 }
 

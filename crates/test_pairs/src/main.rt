@@ -58,9 +58,7 @@ fn answer<'a>(
 
 fn pair<'a>(rt: &impl Print, journal: &'a [u8], plan: &'a [u8]) -> io::Result<()> {
     let line = lines::line_of(resume::verdict(journal, plan));
-    let len = line.len;
-    let bytes = line.bytes;
-    rt.write_all(&bytes[..len])?;
+    rt.write_all(line.as_bytes())?;
     boundary(rt, journal, plan, 0)?;
     boundary(rt, journal, plan, 1)?;
     boundary(rt, journal, plan, 2)?;

@@ -1,26 +1,21 @@
 -- One byte more is shown; the shown name is as long as the name.
-use Rattle.std.proofs.Common.{arith, ◌∙◌, sym}
-use Rattle.index.specs.Row.{cleaned}
-use Rattle.index.proofs.Fields.{copied_more, copied_all, cleaned_length, cleaned_at}
+use Rattle.std.proofs.Common.{◌<◌, length, append_assoc, arith}
+use Rattle.index.proofs.Fields.{shown_length, cleaned_next}
 use Rattle.index.proofs.rows.name_field.Goals as goal
 
-pub loop-i-preserved : goal.loop-i-preserved
-loop-i-preserved c =
-    let name = c.args.name.now in
-    let i = c.loop-i.i in
-    copied_more c.args.room.now 0 (cleaned name) c.loop-i.room i i c.clean.result c.loop-i.invariant
-    (omega (arith, cleaned_length name)) (omega (arith, cleaned_length name)) (omega arith)
-    (c.clean.ensures ∙ sym (cleaned_at name i (omega arith)))
+pub push-requires : goal.push-requires
+push-requires c =
+    let row = c.loop-byte in
+    let more : length row.row < 4608 = omega (arith, shown_length row.row c.args.row.now c.args.name.now row.byte-index row.invariant (omega arith)) in
+    (omega arith, more)
 
-pub bounds-room-i-2 : goal.bounds-room-i-2
-bounds-room-i-2 c = omega (arith, cleaned_length c.args.name.now)
+pub loop-byte-preserved : goal.loop-byte-preserved
+loop-byte-preserved c =
+    rw (c.push.ensures, c.loop-byte.invariant, cleaned_next c.args.name.now c.loop-byte.byte-index (omega arith), c.clean.ensures)
+    (simp append_assoc)
 
-pub returns-clause-fielded : goal.returns-clause-fielded
-returns-clause-fielded c =
-    let name = c.args.name.now in
-    let long = cleaned_length name in
-    copied_all c.args.room.now 0 (cleaned name) c.loop-i.room c.loop-i.i c.loop-i.i 9 c.loop-i.invariant
-    (omega arith) (omega arith) (omega arith)
-
-pub returns-clause-value : goal.returns-clause-value
-returns-clause-value c = let long = cleaned_length c.args.name.now in omega arith
+pub push-requires-2 : goal.push-requires-2
+push-requires-2 c =
+    let row = c.loop-byte in
+    let more : length row.row < 4608 = omega (arith, shown_length row.row c.args.row.now c.args.name.now row.byte-index row.invariant (omega arith)) in
+    (omega arith, more)
