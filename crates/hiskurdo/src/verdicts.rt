@@ -5,7 +5,7 @@ ghost use Rattle.resume.specs.Handing.{handed_rule};
 ghost use Rattle.histories.specs.Told.{given_told, handed_told};
 ghost use Rattle.hiskurdo.specs.VerdictNumbers.{verdict_numbers, handover_numbers};
 
-use histories::{Answer, Handed};
+use histories::Handed;
 use records::Body;
 use resume::handing;
 
@@ -40,37 +40,26 @@ pub fn hiskurdo_verdict(journal: &[u8], plan: &[u8]) -> VerdictNumbers
     ensures { result ≡ verdict_numbers (verdict_rule journal.now plan.now) }
 {
     match resume::verdict(journal, plan) {
-        Ok(Accepted {
-            ending,
-            stop,
-            records,
-            calls,
-            failed,
-        }) => VerdictNumbers {
+        Ok(accepted) => VerdictNumbers {
             refused: 0,
-            ending: ending.number(),
-            stop,
-            records,
+            ending: accepted.ending.number(),
+            stop: accepted.stop,
+            records: accepted.records,
             number: 0,
             place: 0,
             divergence: 0,
-            calls,
-            failed,
+            calls: accepted.calls,
+            failed: accepted.failed,
         },
-        Err(Refused {
-            number,
-            place,
-            divergence,
-            calls,
-        }) => VerdictNumbers {
+        Err(refused) => VerdictNumbers {
             refused: 1,
             ending: 0,
             stop: 0,
             records: 0,
-            number,
-            place,
-            divergence,
-            calls,
+            number: refused.number,
+            place: refused.place,
+            divergence: refused.divergence,
+            calls: refused.calls,
             failed: 0,
         },
     }
