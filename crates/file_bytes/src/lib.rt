@@ -28,7 +28,8 @@ const ENAMETOOLONG: i32 = 36;
 // The bytes that are read of a file: more than the longest file has, so that a longer one is seen to be too long.
 pub const ROOM: usize = 32770;
 
-// How many bytes of a folder's file stand at the start of room, at most `ROOM`. 0 for a file that cannot be read.
+// How many bytes of a folder's file stand at the start of room, at most `ROOM`. 0 for a file that cannot be read: a count and no
+// `Result`, since 01 counts such a file as 0 bytes.
 pub fn contents(rt: &HostRuntime, folder: &[u8], file: &[u8], room: &mut [u8]) -> usize
     ensures { Loaded room.old result room.new }
 {

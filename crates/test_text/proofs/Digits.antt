@@ -102,9 +102,9 @@ bytes_none s i h = short (drop (2 * i) s) (omega (arith, length-drop (2 * i) s))
     short (x ∷ (y ∷ xs)) h = absurd (omega arith)
 
 -- the byte that is there
-pub byte_known : (r : Option ℕ) (x : ℕ) → unwrap_or r 256 ≡ x → x < 256 → unwrap_or r 0 ≡ x
+pub byte_known : (r : Option ℕ) (x : ℕ) → unwrap_or r 256 ≡ x → x < 256 → r ≡ Some x
 byte_known None x e h = absurd (omega arith)
-byte_known (Some y) x e h = e
+byte_known (Some y) x e h = ap (λ (n : ℕ). Some n) e
 
 pub bytes_length : (s : List ℕ) → length (hex_bytes s) ≡ length s / 2
 bytes_length [] = refl

@@ -9,7 +9,8 @@ ghost use Rattle.test_text.specs.Lines.{before, items, hex_digit, hex_byte, pair
 ghost use Rattle.test_text.specs.Lines.{item_bytes, items_bytes, right, file_of, line_at, line_rule, over};
 ghost use Rattle.test_text.specs.Steps.{item_length, IsNextItem};
 
-// A line's letter, where the next line begins, and how many bytes of the file there are.
+// A line's letter, where the next line begins, and how many bytes of the file there are. Numbers and no `Option`, since `line_rule` gives
+// numbers: 0 where there is no letter, and 0 bytes where there is no file.
 #[derive(Clone, Copy)]
 pub struct Described {
     pub letter: u8,
@@ -36,18 +37,8 @@ pub fn read_line(text: &[u8], at: usize, room: &mut [u8]) -> Described
     let end = at + line.len();
     let letter = first(line);
     let len = read_file(line, room);
-    if end < text.len() {
-        return Described {
-            letter,
-            next: end + 1,
-            len,
-        };
-    }
-    Described {
-        letter,
-        next: end,
-        len,
-    }
+    let next = if end < text.len() { end + 1 } else { end };
+    Described { letter, next, len }
 }
 
 // Reads the file that a line describes into room.
@@ -253,7 +244,7 @@ fn write_digits(digits: &[u8], room: &mut [u8]) -> usize
 {
     let n = digits.len() / 2;
     for i in 0..n {
-        room[i] = hex_byte(digits[2 * i], digits[2 * i + 1]).unwrap_or(0);
+        room[i] = hex_byte(digits[2 * i], digits[2 * i + 1]).unwrap();
     }
     n
 }
