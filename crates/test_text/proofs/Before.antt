@@ -93,8 +93,10 @@ items_after (x ∷ xs) =
 -- the item after the space at the start of a text, and the next space
 module _ (text item more : List ℕ) (here : before 32 text ≡ []) (next : IsNextItem text item more) where
   pub items_next : items text ≡ item ∷ items more
-  items_next = first text here next.some ∙ ap (λ (l : List ℕ). l ∷ items (drop 1 text)) (sym next.here) ∙
-      ap (λ (l : List (List ℕ)). item ∷ l) (sym (ap items next.rest ∙ ap (λ (l : List ℕ). items (drop (length l) (drop 1 text))) next.here ∙ items_after (drop 1 text)))
+  items_next =
+      let later : items more ≡ items (drop 1 text) =
+      ap items next.rest ∙ ap (λ (l : List ℕ). items (drop (length l) (drop 1 text))) next.here ∙ items_after (drop 1 text) in
+      first text here next.some ∙ rw (later, next.here)
     where
       first : (s : List ℕ) → before 32 s ≡ [] → 0 < length s → items s ≡ before 32 (drop 1 s) ∷ items (drop 1 s)
       first [] e h = absurd (omega arith)

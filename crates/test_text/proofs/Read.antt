@@ -47,7 +47,8 @@ module _ (text : List ℕ) (at room : ℕ) where
   unfolding file_of
   none_past bytes h = rw (drop_of_length-le text h)
 
-  module _ (line : List ℕ) (letter end len : ℕ) (here : line ≡ before 10 (take (length text - at) (drop at text))) (e : end ≡ at + length line) (first : letter ≡ get_or line 0 0)
+  module _ (line : List ℕ) (letter end len : ℕ) (here : line ≡ before 10 (take (length text - at) (drop at text)))
+      (e : end ≡ at + length line) (first : letter ≡ get_or line 0 0)
       (file : len ≡ length (file_of line room)) where
     there : line ≡ line_at text at
     there = here ∙ ap (before 10) (take_all (length text - at) (drop at text) (omega (arith, length-drop at text)))
