@@ -1,3 +1,1 @@
-pub mod Putting
-pub mod Same
-pub mod Asking
+pub mod Loaded

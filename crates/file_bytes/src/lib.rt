@@ -7,10 +7,11 @@
 
 pub mod names;
 
-ghost use Rattle.std.specs.Prelude.{◌≤◌, min, ◌≡◌, length};
+ghost use Rattle.std.specs.Prelude.{◌≤◌, min, ◌≡◌, length, IfOk};
 ghost use Rattle.std.proofs.Math.Seq.{paste};
 ghost use Rattle.file_bytes.specs.Counts.{IsPrefixLen};
 ghost use Rattle.file_bytes.specs.Loaded.{Loaded};
+ghost use Rattle.file_bytes.specs.Names.{is_given};
 
 use std::env::FillError;
 use std::fs::File;
@@ -27,14 +28,14 @@ const ENAMETOOLONG: i32 = 36;
 // The bytes that are read of a file: more than the longest file has, so that a longer one is seen to be too long.
 pub const ROOM: usize = 32770;
 
-// How many bytes of a folder's file stand at the start of room, at most `ROOM`. 0 for a file that cannot be read.
+// How many bytes of a folder's file stand at the start of room, at most `ROOM`. 0 for a file that cannot be read: a count and no
+// `Result`, since 01 counts such a file as 0 bytes.
 pub fn contents(rt: &HostRuntime, folder: &[u8], file: &[u8], room: &mut [u8]) -> usize
     ensures { Loaded room.old result room.new }
 {
-    let mut path = [0u8; 4608];
-    let len = path_of(folder, file, &mut path);
+    let path = path_of(folder, file);
     let mut own = [0u8; ROOM];
-    let n = read_file(rt, &path[..len], &mut own);
+    let n = read_file(rt, path.text(), &mut own);
     put(&own[..n], room)
 }
 
@@ -51,56 +52,65 @@ pub fn argument(rt: &HostRuntime, i: usize, name: &mut [u8]) -> usize
     }
 }
 
+// Whether there is such an argument, by what the system said when it was asked for: one that is too long for the room is there too.
+pub fn is_given(said: Result<usize, FillError>) -> bool
+    ensures { result ≡ is_given said }
+{
+    !matches!(said, Err(FillError::NotPresent))
+}
+
 // Copies a text to the start of a room, as far as it fits, and returns how many bytes were copied.
-#[tactic(auto, using(crate::proofs::Putting::putting_none, crate::proofs::Putting::putting_more, crate::proofs::Putting::putting_loaded))]
 fn put(text: &[u8], room: &mut [u8]) -> usize
     ensures value { result ≡ min (length text.now) (length room.old) }
     ensures room_after { room.new ≡ paste room.old 0 text.now result }
     ensures loaded { Loaded room.old result room.new }
 {
-    let n = least(text.len(), room.len());
-    let mut i = 0;
-    while i < n {
-        room[i] = text[i];
-        i += 1;
-    }
+    let n = text.len().min(room.len());
+    room[..n].copy_from_slice(&text[..n]);
     n
 }
 
-fn least(a: usize, b: usize) -> usize
-    ensures value { result ≡ min a b }
-    ensures upper_bound { (result ≤ a) × (result ≤ b) }
-{
-    if a < b { a } else { b }
+// A path that is put together, text after text. What does not fit is cut: the path is then longer than the system allows, and no
+// file is opened.
+#[derive(Drop)]
+struct PathRoom {
+    bytes: [u8; 4608],
+    len: usize,
+    ghost within: { len ≤ 4608 },
 }
 
-// The path of a folder's file. The empty name is no folder, and its path is empty too. What does not fit is cut: the path
-// is then longer than the system allows, and no file is opened.
-fn path_of(folder: &[u8], file: &[u8], path: &mut [u8]) -> usize
-    ensures { IsPrefixLen result path.new }
-{
-    if folder.len() == 0 {
-        return 0;
+impl PathRoom {
+    fn push(&mut self, text: &[u8]) {
+        self.len += put(text, &mut self.bytes[self.len..]);
     }
-    let slash = append(path, 0, folder);
-    let name = append(path, slash, b"/");
-    append(path, name, file)
+
+    fn text(&self) -> &[u8] {
+        &self.bytes[..self.len]
+    }
 }
 
-// Copies a text into a path from a place on, as far as it fits, and returns where the next text begins.
-fn append(path: &mut [u8], at: usize, text: &[u8]) -> usize
-    requires { at ≤ length path.old }
-    ensures { IsPrefixLen result path.new }
+// The path of a folder's file. The empty name is no folder, and its path is empty too.
+fn path_of(folder: &[u8], file: &[u8]) -> PathRoom
+    ensures { length folder.now ≡ 0 → result.len ≡ 0 }
 {
-    at + put(text, &mut path[at..])
+    let mut path = PathRoom {
+        bytes: [0u8; 4608],
+        len: 0,
+    };
+    if !folder.is_empty() {
+        path.push(folder);
+        path.push(b"/");
+        path.push(file);
+    }
+    path
 }
 
 // Reads a file and returns how many bytes it has. Where the system refuses it: 0, and the reason on standard error.
 fn read_file(rt: &HostRuntime, path: &[u8], room: &mut [u8]) -> usize
     ensures { IsPrefixLen result room.new }
 {
-    match open(rt, path) {
-        Ok(mut file) => read_all(rt, &mut file, path, room),
+    match read_all(rt, path, room) {
+        Ok(n) => n,
         Err(error) => {
             names::refused(rt, path, error);
             0
@@ -113,29 +123,27 @@ fn open(rt: &HostRuntime, path: &[u8]) -> io::Result<File> {
     if path.len() >= PATH_MAX {
         return Err(io::Error::from_raw_os_error(ENAMETOOLONG));
     }
-    match str::from_utf8(path) {
-        Ok(text) => File::open(rt, text),
-        Err(_) => Err(io::Error::new(
+    let text = str::from_utf8(path).map_err(|_| {
+        io::Error::new(
             ErrorKind::InvalidFilename,
             "a path that is not UTF-8 is not opened",
-        )),
-    }
+        )
+    })?;
+    File::open(rt, text)
 }
 
-// Reads to the file's end or until room is full; 0 where a read fails.
-fn read_all(rt: &HostRuntime, file: &mut File, path: &[u8], room: &mut [u8]) -> usize
-    ensures { IsPrefixLen result room.new }
+// Reads to a file's end or until room is full.
+fn read_all(rt: &HostRuntime, path: &[u8], room: &mut [u8]) -> io::Result<usize>
+    ensures { IfOk result (λ n. IsPrefixLen n room.new) }
 {
-    let mut done: usize = 0;
+    let mut file = open(rt, path)?;
+    let mut done = 0;
+    // A `while`, since each read says how far it came.
     while done < room.len() {
-        match file.read(&mut room[done..]) {
-            Ok(0) => return done,
-            Ok(n) => done += n,
-            Err(error) => {
-                names::refused(rt, path, error);
-                return 0;
-            }
+        match file.read(&mut room[done..])? {
+            0 => break,
+            n => done += n,
         }
     }
-    done
+    Ok(done)
 }

@@ -1,15 +1,15 @@
 // Names as they are given and as they are shown.
 //
 // Defends: no byte of a name moves the cursor of a terminal, ends a field or a row; an option is not taken for a folder.
-ghost use Rattle.std.specs.Prelude.{◌≡◌, eqb, get_or};
+ghost use Rattle.std.specs.Prelude.{◌≡◌, ◌<◌, ℕ, eqb, get_or, slice_index};
 ghost use Rattle.file_bytes.specs.Counts.{IsPrefixLen};
-ghost use Rattle.file_bytes.specs.Names.{clean, same_bytes, asked_for};
+ghost use Rattle.file_bytes.specs.Names.{clean, asked_for};
 
 use std::fmt::InlineText;
 use std::io;
 
 // What an argument asks for.
-#[derive(Clone, Copy)]
+#[derive(Clone, Copy, PartialEq, Eq)]
 pub enum Asked {
     Folder,
     Help,
@@ -21,58 +21,34 @@ pub enum Asked {
 pub fn clean(byte: u8) -> u8
     ensures { result ≡ clean byte }
 {
-    if (byte < 32) | (byte == 127) {
-        b'?'
-    } else {
-        byte
-    }
-}
-
-#[tactic(auto, using(crate::proofs::Same::same_long, crate::proofs::Same::same_on, crate::proofs::Same::same_off, crate::proofs::Same::same_over))]
-fn same(a: &[u8], b: &[u8]) -> bool
-    ensures { result ≡ same_bytes a.now b.now }
-{
-    if a.len() != b.len() {
-        return false;
-    }
-    let mut i = 0;
-    while i < a.len() {
-        if a[i] != b[i] {
-            return false;
-        }
-        i += 1;
-    }
-    true
+    if byte.is_ascii_control() { b'?' } else { byte }
 }
 
 // A folder, or an option: whatever begins with `-`. A folder with such a name is given as `./-name`.
+#[tactic(auto, unfolding(crate::specs::Names::asked_for))]
 pub fn asked_for(argument: &[u8]) -> Asked
     ensures { result ≡ asked_for argument.now }
 {
-    if same(argument, b"-h") | same(argument, b"--help") {
-        return Asked::Help;
+    if (argument == b"-h".as_slice()) | (argument == b"--help".as_slice()) {
+        Asked::Help
+    } else if argument == b"--version".as_slice() {
+        Asked::Version
+    } else if dashed(argument) {
+        Asked::Unknown
+    } else {
+        Asked::Folder
     }
-    if same(argument, b"--version") {
-        return Asked::Version;
-    }
-    if dashed(argument) {
-        return Asked::Unknown;
-    }
-    Asked::Folder
 }
 
 fn dashed(argument: &[u8]) -> bool
     ensures { result ≡ eqb (get_or argument.now 0 0) 45 }
 {
-    if argument.len() == 0 {
-        return false;
-    }
-    argument[0] == b'-'
+    argument.first() == Some(&b'-')
 }
 
 // Says on standard error why the system refused a file, by its path and the system's own reason. What cannot be written is lost.
 pub(crate) fn refused(rt: &HostRuntime, path: &[u8], error: io::Error) {
-    if path.len() == 0 {
+    if path.is_empty() {
         fail(rt, b"the empty name", error);
         return;
     }
@@ -101,15 +77,12 @@ fn without_number(words: &str) -> &str {
 
 // Writes a name as it is shown to the start of room, as far as it fits.
 fn show(name: &[u8], room: &mut [u8]) -> usize
-    ensures { IsPrefixLen result room.new }
+    ensures counts { IsPrefixLen result room.new }
+    ensures bytes { (k : ℕ) → k < result → slice_index room.new k ≡ clean (slice_index name.now k) }
 {
-    let mut i = 0;
-    while i < name.len() {
-        if i >= room.len() {
-            return i;
-        }
+    let n = name.len().min(room.len());
+    for i in 0..n {
         room[i] = clean(name[i]);
-        i += 1;
     }
-    i
+    n
 }

@@ -9,7 +9,6 @@ mod rows;
 ghost use Rattle.std.specs.Prelude.{◌≤◌, length};
 
 use file_bytes::names::Asked;
-use std::env::FillError;
 use std::rt::Env;
 
 fn main(rt: HostRuntime) {
@@ -24,17 +23,13 @@ fn main(rt: HostRuntime) {
 
 // How many arguments the program was started with, its own name among them.
 fn argument_count(rt: &HostRuntime) -> usize {
+    let mut first = [0u8; 1];
     for i in 0..usize::MAX {
-        if !is_given(rt, i) {
+        if !file_bytes::is_given(rt.arg(i, &mut first)) {
             return i;
         }
     }
     usize::MAX
-}
-
-fn is_given(rt: &HostRuntime, i: usize) -> bool {
-    let mut first = [0u8; 1];
-    !matches!(rt.arg(i, &mut first), Err(FillError::NotPresent))
 }
 
 // What the arguments ask for: the first that is no folder decides. Without an argument nothing is asked.
@@ -42,13 +37,11 @@ fn asked_by(rt: &HostRuntime, count: usize) -> Asked {
     if count < 2 {
         return Asked::Unknown;
     }
-    let mut i = 1;
-    while i < count {
+    for i in 1..count {
         let asked = asked_at(rt, i);
-        if !is_folder(asked) {
+        if asked != Asked::Folder {
             return asked;
         }
-        i += 1;
     }
     Asked::Folder
 }
@@ -57,13 +50,6 @@ fn asked_at(rt: &HostRuntime, i: usize) -> Asked {
     let mut name = [0u8; file_bytes::PATH_MAX];
     let n = file_bytes::argument(rt, i, &mut name);
     file_bytes::names::asked_for(&name[..n])
-}
-
-fn is_folder(asked: Asked) -> bool {
-    match asked {
-        Asked::Folder => true,
-        _ => false,
-    }
 }
 
 // What cannot be written is lost, and the status stays 0.
@@ -89,12 +75,10 @@ fn version(rt: &HostRuntime) {
 fn folders(rt: &HostRuntime, count: usize) {
     let mut journal = [0u8; file_bytes::ROOM];
     let mut plan = [0u8; file_bytes::ROOM];
-    let mut i = 1;
-    while i < count {
+    for i in 1..count {
         if !folder(rt, i, &mut journal, &mut plan) {
             return;
         }
-        i += 1;
     }
 }
 

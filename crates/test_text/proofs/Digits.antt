@@ -1,36 +1,41 @@
 -- Laws of digits: of one, of pairs of them, of a decimal number.
 use Prim.Native.Nat.{ℕ, zero, suc, ◌+◌, ◌*◌, ◌-◌, ◌/◌, ◌≤◌, ◌<◌}
 use mathlib.Core.Path.{◌≡◌, refl, ap, sym, ◌∙◌}
-use mathlib.Core.Bool.{true, false}
-use mathlib.Core.Logic.{by_cases}
+use mathlib.Core.Bool.{Bool, true, false, ◌&&◌}
 use mathlib.Core.List.{List, [], ◌∷◌, ◌++◌}
-use native.Mathlib.Decide.{ℕ_discrete, dec_lt}
 use native.Mathlib.Nat.{suc-mul, zero-mul}
 use native.Mathlib.Omega.{arith}
-use borrow.Author.Tests.{eq-eqb, ne_eqb, lt-ltb, le-ltb, le-leb, lt-leb}
-use lib.Dec.{eqb}
-use lib.ListN.{length, drop, get_or, drop_of_length-le, length-append}
+use borrow.Author.Tests.{ltb-true, lt-ltb, le-ltb, le-leb, lt-leb}
+use Rattle.std.specs.Prelude.{Option, Some, None, unwrap_or}
+use lib.Dec.{eqb, ltb}
+use lib.Seq.{drop-drop}
+use Rattle.std.proofs.lemmas.List.{get_or-drop}
+use lib.ListN.{length, drop, get_or, drop_of_length-le, length-append, length-drop}
 use Rattle.test_text.specs.Lines.{hex_digit, hex_byte, paired, hex_bytes, decimal_from, copies}
 use Rattle.test_text.proofs.Before.{drop_at}
 
+pub and_both : (a b : Bool) → (a && b) ≡ true → (a ≡ true) × (b ≡ true)
+and_both true b e = (refl, e)
+and_both false b e = cc e
+
 module _ (b : ℕ) where
-  pub digit_below : b < 48 → hex_digit b ≡ 16
+  pub digit_below : b < 48 → 16 ≡ hex_digit b
   unfolding hex_digit
   digit_below h = rw (lt-leb 48 b h) (rw (lt-leb 97 b (omega arith)))
 
-  pub digit_decimal : 48 ≤ b → b ≤ 57 → hex_digit b ≡ b - 48
+  pub digit_decimal : 48 ≤ b → b ≤ 57 → b - 48 ≡ hex_digit b
   unfolding hex_digit
   digit_decimal h l = rw (le-leb 48 b h, le-leb b 57 l)
 
-  pub digit_between : 57 < b → b < 97 → hex_digit b ≡ 16
+  pub digit_between : 57 < b → b < 97 → 16 ≡ hex_digit b
   unfolding hex_digit
   digit_between h l = rw (le-leb 48 b (omega arith), lt-leb b 57 h, lt-leb 97 b l)
 
-  pub digit_letter : 97 ≤ b → b ≤ 102 → hex_digit b ≡ b - 87
+  pub digit_letter : 97 ≤ b → b ≤ 102 → b - 97 + 10 ≡ hex_digit b
   unfolding hex_digit
-  digit_letter h l = rw (le-leb 48 b (omega arith), lt-leb b 57 (omega arith), le-leb 97 b h, le-leb b 102 l)
+  digit_letter h l = rw (le-leb 48 b (omega arith), lt-leb b 57 (omega arith), le-leb 97 b h, le-leb b 102 l) (omega arith)
 
-  pub digit_above : 102 < b → hex_digit b ≡ 16
+  pub digit_above : 102 < b → 16 ≡ hex_digit b
   unfolding hex_digit
   digit_above h = rw (le-leb 48 b (omega arith), lt-leb b 57 (omega arith), le-leb 97 b (omega arith), lt-leb b 102 h)
 
@@ -39,47 +44,67 @@ module _ (high low : ℕ) where
   unfolding hex_byte
   byte_both h l = rw (lt-ltb (hex_digit high) 16 (omega arith), lt-ltb (hex_digit low) 16 (omega arith))
 
-  pub byte_high : 15 < hex_digit high → hex_byte high low ≡ 256
+  pub byte_high : 16 ≡ hex_digit high → hex_byte high low ≡ 256
   unfolding hex_byte
-  byte_high h = rw (le-ltb (hex_digit high) 16 h)
+  byte_high h = rw (le-ltb (hex_digit high) 16 (omega arith))
 
-  pub byte_low : hex_digit high ≤ 15 → 15 < hex_digit low → hex_byte high low ≡ 256
+  pub byte_low : hex_digit high ≤ 15 → 16 ≡ hex_digit low → hex_byte high low ≡ 256
   unfolding hex_byte
-  byte_low h l = rw (lt-ltb (hex_digit high) 16 (omega arith), le-ltb (hex_digit low) 16 l)
+  byte_low h l = rw (lt-ltb (hex_digit high) 16 (omega arith), le-ltb (hex_digit low) 16 (omega arith))
 
--- the pair at a place, and where there is none
-drop_two : (s : List ℕ) (at : ℕ) → at + 1 < length s → drop at s ≡ get_or s at 0 ∷ (get_or s (at + 1) 0 ∷ drop (at + 2) s)
-drop_two s at h =
-    let two : at + 1 + 1 ≡ at + 2 = omega arith in rw (drop_at s at (omega arith)) (rw (drop_at s (at + 1) h) (rw two))
+-- pairs at the start of a text
+pub paired_start : (s : List ℕ) → 2 ≤ length s → paired s ≡ (ltb (hex_byte (get_or s 0 0) (get_or s 1 0)) 256 && paired (drop 2 s))
+paired_start [] h = absurd (omega arith)
+paired_start (x ∷ []) h = absurd (omega arith)
+paired_start (x ∷ (y ∷ xs)) h = refl
 
-module _ (s : List ℕ) (at : ℕ) where
-  pub paired_again : at + 1 < length s → hex_byte (get_or s at 0) (get_or s (at + 1) 0) < 256 → paired (drop at s) ≡ paired (drop (at + 2) s)
-  paired_again h l = rw (drop_two s at h) (rw (lt-ltb (hex_byte (get_or s at 0) (get_or s (at + 1) 0)) 256 l))
+pub bytes_start : (s : List ℕ) → 2 ≤ length s → hex_bytes s ≡ hex_byte (get_or s 0 0) (get_or s 1 0) ∷ hex_bytes (drop 2 s)
+bytes_start [] h = absurd (omega arith)
+bytes_start (x ∷ []) h = absurd (omega arith)
+bytes_start (x ∷ (y ∷ xs)) h = refl
 
-  pub paired_never : at + 1 < length s → 256 ≤ hex_byte (get_or s at 0) (get_or s (at + 1) 0) → paired (drop at s) ≡ false
-  paired_never h l = rw (drop_two s at h) (rw (le-ltb (hex_byte (get_or s at 0) (get_or s (at + 1) 0)) 256 l))
+pub paired_end : (s : List ℕ) → length s < 2 → paired s ≡ eqb (length s) 0
+paired_end [] h = refl
+paired_end (x ∷ []) h = refl
+paired_end (x ∷ (y ∷ xs)) h = absurd (omega arith)
 
-  pub paired_last : at ≤ length s → length s ≤ at + 1 → paired (drop at s) ≡ eqb at (length s)
-  paired_last h l =
-      by_cases (ℕ_discrete at (length s))
-      (λ e. rw (eq-eqb at (length s) e, drop_of_length-le s {i = at} (omega arith)))
-      (λ ne. rw (ne_eqb at (length s) ne, drop_at s at (omega (arith, ne)), drop_of_length-le s {i = at + 1} (omega arith)))
+-- pairs at a place
+module _ (s : List ℕ) (i : ℕ) (h : i < length s / 2) where
+  two : 2 ≤ length (drop (2 * i) s)
+  two = omega (arith, h, length-drop (2 * i) s)
 
-  pub bytes_again : at + 1 < length s →
-      hex_bytes (drop at s) ≡ hex_byte (get_or s at 0) (get_or s (at + 1) 0) ∷ hex_bytes (drop (at + 2) s)
-  bytes_again h = rw (drop_two s at h)
+  second : get_or (drop (2 * i) s) 1 0 ≡ get_or s (2 * i + 1) 0
+  second = get_or-drop (2 * i) s 1 0
 
-  pub bytes_last : at ≤ length s → length s ≤ at + 1 → hex_bytes (drop at s) ≡ []
-  bytes_last h l =
-      by_cases (ℕ_discrete at (length s))
-      (λ e. rw (drop_of_length-le s {i = at} (omega arith)))
-      (λ ne. rw (drop_at s at (omega (arith, ne)), drop_of_length-le s {i = at + 1} (omega arith)))
+  first : get_or (drop (2 * i) s) 0 0 ≡ get_or s (2 * i) 0
+  first = let none : 2 * i + 0 ≡ 2 * i = omega arith in get_or-drop (2 * i) s 0 0 ∙ ap (λ (k : ℕ). get_or s k 0) none
 
-  -- where pairs stand each of them is a byte
-  pub paired_byte : at + 1 < length s → paired (drop at s) ≡ true → hex_byte (get_or s at 0) (get_or s (at + 1) 0) < 256
-  paired_byte h e =
-      by_cases (dec_lt (hex_byte (get_or s at 0) (get_or s (at + 1) 0)) 256) (λ l. l)
-      (λ nl. let z : true ≡ false = sym e ∙ paired_never h (omega (arith, nl)) in let y : ◌≡◌ {A = ℕ} 0 1 = cc z in omega arith)
+  rest : drop 2 (drop (2 * i) s) ≡ drop (2 * (i + 1)) s
+  rest = let more : 2 * i + 2 ≡ 2 * (i + 1) = omega arith in drop-drop 2 (2 * i) s ∙ ap (λ (k : ℕ). drop k s) more
+
+  pub bytes_at : hex_bytes (drop (2 * i) s) ≡ hex_byte (get_or s (2 * i) 0) (get_or s (2 * i + 1) 0) ∷ hex_bytes (drop (2 * (i + 1)) s)
+  bytes_at = bytes_start (drop (2 * i) s) two ∙ rw (first, second, rest)
+
+  pub paired_at : paired (drop (2 * i) s) ≡ true →
+      (hex_byte (get_or s (2 * i) 0) (get_or s (2 * i + 1) 0) < 256) × (paired (drop (2 * (i + 1)) s) ≡ true)
+  paired_at p =
+      let both = and_both (ltb (hex_byte (get_or (drop (2 * i) s) 0 0) (get_or (drop (2 * i) s) 1 0)) 256) (paired (drop 2 (drop (2 * i) s)))
+      (sym (paired_start (drop (2 * i) s) two) ∙ p) in
+      (rw (← first, ← second) (ltb-true (hex_byte (get_or (drop (2 * i) s) 0 0) (get_or (drop (2 * i) s) 1 0)) 256 both.0), ap paired (sym rest) ∙ both.1)
+
+-- and after the last
+pub bytes_none : (s : List ℕ) (i : ℕ) → length s / 2 ≤ i → hex_bytes (drop (2 * i) s) ≡ []
+bytes_none s i h = short (drop (2 * i) s) (omega (arith, length-drop (2 * i) s))
+  where
+    short : (s : List ℕ) → length s < 2 → hex_bytes s ≡ []
+    short [] h = refl
+    short (x ∷ []) h = refl
+    short (x ∷ (y ∷ xs)) h = absurd (omega arith)
+
+-- the byte that is there
+pub byte_known : (r : Option ℕ) (x : ℕ) → unwrap_or r 256 ≡ x → x < 256 → r ≡ Some x
+byte_known None x e h = absurd (omega arith)
+byte_known (Some y) x e h = ap (λ (n : ℕ). Some n) e
 
 pub bytes_length : (s : List ℕ) → length (hex_bytes s) ≡ length s / 2
 bytes_length [] = refl
@@ -93,6 +118,17 @@ copies_length (suc n) bytes = omega (arith, length-append bytes (copies n bytes)
 pub copies_again : (n : ℕ) (bytes : List ℕ) → 0 < n → copies n bytes ≡ bytes ++ copies (n - 1) bytes
 copies_again zero bytes h = absurd (omega arith)
 copies_again (suc n) bytes h = let one : n ≡ suc n - 1 = omega arith in ap (λ (k : ℕ). bytes ++ copies k bytes) one
+
+-- copies that are made one after another
+module _ (bytes : List ℕ) (n i : ℕ) where
+  pub copies_next : i < n → copies (n - i) bytes ≡ bytes ++ copies (n - (i + 1)) bytes
+  copies_next h = let one : n - i - 1 ≡ n - (i + 1) = omega arith in
+      copies_again (n - i) bytes (omega arith) ∙ ap (λ (k : ℕ). bytes ++ copies k bytes) one
+
+  pub copies_end : n ≤ i → copies (n - i) bytes ≡ []
+  copies_end h = let none : n - i ≡ 0 = omega arith in ap (λ (k : ℕ). copies k bytes) none
+
+pub ruleset copy_laws = (copies_next, copies_end)
 
 -- a decimal number goes on at a place
 module _ (n digit : ℕ) (s : List ℕ) (at : ℕ) (h : at < length s) (e : digit ≡ hex_digit (get_or s at 0)) where
@@ -112,6 +148,10 @@ decimal_ends n s at h = rw (drop_of_length-le s h)
 -- the laws of a digit, of pairs of digits and of a decimal number
 pub ruleset digit_laws = (digit_below, digit_decimal, digit_between, digit_letter, digit_above)
 
-pub ruleset pair_laws = (paired_again, paired_byte, bytes_again, bytes_last)
+pub ruleset byte_laws = (byte_both, byte_high, byte_low)
+
+pub ruleset start_laws = (paired_start, paired_end)
+
+pub ruleset pair_laws = (bytes_at, paired_at, bytes_none, byte_known, bytes_length)
 
 pub ruleset decimal_laws = (decimal_again, decimal_other, decimal_over, decimal_ends)

@@ -1,14 +1,18 @@
 -- Laws of bytes that are put into a room, some after others.
-use Prim.Native.Nat.{ℕ, ◌+◌, ◌≤◌, ◌<◌}
+use Prim.Native.Nat.{ℕ, ◌+◌, ◌-◌, ◌≤◌, ◌<◌}
 use mathlib.Core.Path.{◌≡◌, refl, ap, sym, ◌∙◌}
-use mathlib.Core.List.{List, [], ◌∷◌, ◌++◌, append_assoc}
+use mathlib.Core.List.{List, [], ◌∷◌, ◌++◌, append_assoc, append-nil}
 use native.Mathlib.Nat.{add-zero, zero-add}
 use native.Mathlib.Numerals.{add-one}
 use native.Mathlib.Omega.{arith}
-use lib.ListN.{length, take, drop, set, length-set, length-append, length-take, length-drop, take-append-drop}
-use lib.Seq.{take_at, drop-append-add, drop-drop, take-suc-set, drop-set-lt, length-take-le}
+use borrow.Rule.Slice.PartMut.{put_mid}
+use lib.ListN.{drop_of_length-le, length, take, drop, set, length-set, length-append, length-take, length-drop, take-append-drop}
+use lib.Seq.{take_all, take_at, drop-append-add, drop-drop, take-suc-set, drop-set-lt, length-take-le}
 use Rattle.test_text.specs.Lines.{over}
-use Rattle.test_text.specs.Steps.{put}
+
+-- these bytes in a room, from a place on
+abbrev pub put : List ℕ → ℕ → List ℕ → List ℕ
+put room at bytes = take at room ++ (bytes ++ drop (at + length bytes) room)
 
 pub put_none : (room : List ℕ) (at : ℕ) → put room at [] ≡ room
 put_none room at = ap (λ (k : ℕ). take at room ++ drop k room) (add-zero at) ∙ take-append-drop at room
@@ -46,16 +50,16 @@ put_more room at first bytes h =
     rw (whole) (rw (take_at head tail (at + length first) long, beyond) (simp append_assoc))
 
 -- Some of the whole was put there, and this rest is left: put where it belongs, it makes the whole.
-pub record Left (room₀ : List ℕ) (from : ℕ) (whole room : List ℕ) (at : ℕ) (rest : List ℕ) : Type 0 where
+pub record Left (room₀ whole room : List ℕ) (at : ℕ) (rest : List ℕ) : Type 0 where
   pub same : length room ≡ length room₀
-  pub place : at + length rest ≡ from + length whole
-  pub bytes : put room at rest ≡ put room₀ from whole
+  pub place : at + length rest ≡ length whole
+  pub bytes : put room at rest ≡ over whole room₀
 
-pub left_all : (room : List ℕ) (at : ℕ) (whole : List ℕ) → Left room at whole room at whole
-left_all room at whole = record { same = refl; place = refl; bytes = refl }
+pub left_all : (room whole : List ℕ) → Left room whole room 0 whole
+left_all room whole = record { same = refl; place = omega arith; bytes = put_first room whole }
 
-module _ (room₀ : List ℕ) (from : ℕ) (whole room : List ℕ) (at : ℕ) (rest : List ℕ) (h : Left room₀ from whole room at rest) where
-  pub left_byte : (b : ℕ) (later : List ℕ) → rest ≡ b ∷ later → at < length room → Left room₀ from whole (set room at b) (at + 1) later
+module _ (room₀ whole room : List ℕ) (at : ℕ) (rest : List ℕ) (h : Left room₀ whole room at rest) where
+  pub left_byte : (b : ℕ) (later : List ℕ) → rest ≡ b ∷ later → at < length room → Left room₀ whole (set room at b) (at + 1) later
   left_byte b later e l = record {
     same = length-set room at b ∙ h.same;
     place = omega (arith, h.place, ap length e);
@@ -63,19 +67,36 @@ module _ (room₀ : List ℕ) (from : ℕ) (whole room : List ℕ) (at : ℕ) (r
   }
 
   pub left_more : (first later : List ℕ) → rest ≡ first ++ later → at + length first ≤ length room →
-      Left room₀ from whole (put room at first) (at + length first) later
+      Left room₀ whole (put room at first) (at + length first) later
   left_more first later e l = record {
     same = put_length room at first l ∙ h.same;
     place = omega (arith, h.place, ap length e, length-append first later);
     bytes = put_more room at first later l ∙ ap (put room at) (sym e) ∙ h.bytes;
   }
 
-  pub left_put : (first later after : List ℕ) (next : ℕ) → rest ≡ first ++ later → at + length first ≤ length room →
-      after ≡ put room at first → next ≡ at + length first → Left room₀ from whole after next later
-  left_put first later after next e l a n = rw (a, n) (left_more first later e l)
+  -- the bytes that come first are lent the room from there on: they fit, and what they leave behind is in its place
+  part : take (length room - at) (drop at room) ≡ drop at room
+  part = take_all (length room - at) (drop at room) (omega (arith, length-drop at room))
 
-  pub left_none : rest ≡ [] → (at ≡ from + length whole) × (room ≡ put room₀ from whole)
+  pub left_room : (first later : List ℕ) → rest ≡ first ++ later → length whole ≤ length room₀ →
+      length first ≤ length (take (length room - at) (drop at room))
+  left_room first later e l =
+      omega (arith, ap length part, length-drop at room, h.place, h.same, ap length e, length-append first later)
+
+  pub left_part : (first later written : List ℕ) (n : ℕ) → rest ≡ first ++ later → length whole ≤ length room₀ →
+      written ≡ over first (take (length room - at) (drop at room)) → n ≡ length first →
+      Left room₀ whole (put_mid at (length room - at) room written) (at + n) later
+  left_part first later written n e l w m =
+      let there : at + length first ≤ length room = omega (arith, h.place, h.same, ap length e, length-append first later) in
+      let none : drop (length room - at) (drop at room) ≡ [] =
+      drop_of_length-le (drop at room) {i = length room - at} (omega (arith, length-drop at room)) in
+      let same : written ≡ first ++ drop (at + length first) room = w ∙ rw (part, drop-drop) in
+      let all : put_mid at (length room - at) room written ≡ put room at first =
+      rw (same, none) (simp append-nil) in
+      rw (all, m) (left_more first later e there)
+
+  pub left_none : rest ≡ [] → (at ≡ length whole) × (room ≡ over whole room₀)
   left_none e = (omega (arith, h.place, ap length e), sym (put_none room at) ∙ ap (put room at) (sym e) ∙ h.bytes)
 
 -- the laws of what is left
-pub ruleset left_laws = (left_all, left_byte, left_none)
+pub ruleset left_laws = (left_all, left_byte, left_none, left_room, left_part)

@@ -7,11 +7,9 @@ use native.Mathlib.Decide.{dec_lt}
 use native.Mathlib.Nat.{add-zero}
 use native.Mathlib.Omega.{arith}
 use borrow.Author.Tests.{lt-ltb, le-ltb}
-use lib.ListN.{length, take, drop, get_or, drop_of_length-le, length-append, length-drop}
-use Rattle.test_text.specs.Lines.{items, items_bytes, file_of, line_at, line_rule, over}
-use Rattle.test_text.specs.Steps.{put}
-use Rattle.test_text.proofs.Before.{before_take}
-use Rattle.test_text.proofs.Put.{put_first}
+use lib.ListN.{take, length, take, drop, get_or, drop_of_length-le, length-append, length-drop}
+use lib.Seq.{take_all}
+use Rattle.test_text.specs.Lines.{before, items, items_bytes, file_of, line_at, line_rule, over}
 use Rattle.test_text.proofs.Sizes.{file_there}
 
 pub file_fits : (line : List ℕ) (room : ℕ) → length (file_of line room) ≤ room
@@ -21,9 +19,8 @@ file_fits line room =
 
 -- what `read_file` leaves behind
 module _ (line room after : List ℕ) (len : ℕ) (e : len ≡ length (file_of line (length room))) where
-  pub file_written : 0 < len → after ≡ put room 0 (items_bytes (items line)) → after ≡ over (file_of line (length room)) room
-  file_written h a =
-      a ∙ put_first room (items_bytes (items line)) ∙ ap (λ (bytes : List ℕ). over bytes room) (sym (file_there line (length room) (omega arith)).3)
+  pub file_written : 0 < len → after ≡ over (items_bytes (items line)) room → after ≡ over (file_of line (length room)) room
+  file_written h a = a ∙ ap (λ (bytes : List ℕ). over bytes room) (sym (file_there line (length room) (omega arith)).3)
 
   no_bytes : (bytes : List ℕ) → length bytes ≡ 0 → bytes ≡ []
   no_bytes [] h = refl
@@ -50,18 +47,19 @@ module _ (text : List ℕ) (at room : ℕ) where
   unfolding file_of
   none_past bytes h = rw (drop_of_length-le text h)
 
-  module _ (letter end len : ℕ) (e : end ≡ at + length (line_at text at)) where
-    pub line_here : take (end - at) (drop at text) ≡ line_at text at
-    line_here = let n : end - at ≡ length (line_at text at) = omega arith in rw n (before_take 10 (drop at text))
+  module _ (line : List ℕ) (letter end len : ℕ) (here : line ≡ before 10 (take (length text - at) (drop at text)))
+      (e : end ≡ at + length line) (first : letter ≡ get_or line 0 0)
+      (file : len ≡ length (file_of line room)) where
+    there : line ≡ line_at text at
+    there = here ∙ ap (before 10) (take_all (length text - at) (drop at text) (omega (arith, length-drop at text)))
 
-    module _ (first : letter ≡ get_or (take (end - at) (drop at text)) 0 0) (file : len ≡ length (file_of (take (end - at) (drop at text)) room)) where
-      pub line_fed : end < length text → record { letter = letter; next = end + 1; len = len } ≡ line_rule text at room
-      unfolding line_rule
-      line_fed h = rw (first, file, line_here, ← e, lt-ltb end (length text) h)
+    pub line_fed : end < length text → record { letter = letter; next = end + 1; len = len } ≡ line_rule text at room
+    unfolding line_rule
+    line_fed h = rw (first, file, ← there, ← e, lt-ltb end (length text) h)
 
-      pub line_last : length text ≤ end → record { letter = letter; next = end; len = len } ≡ line_rule text at room
-      unfolding line_rule
-      line_last h = rw (first, file, line_here, ← e, le-ltb end (length text) h)
+    pub line_last : length text ≤ end → record { letter = letter; next = end; len = len } ≡ line_rule text at room
+    unfolding line_rule
+    line_last h = rw (first, file, ← there, ← e, le-ltb end (length text) h)
 
 -- what a line says, for `read_line`
-pub ruleset line_laws = (line_past, none_past, line_here, line_fed, line_last)
+pub ruleset line_laws = (line_past, none_past, line_fed, line_last)

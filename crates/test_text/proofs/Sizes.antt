@@ -5,64 +5,46 @@ use mathlib.Core.Bool.{Bool, true, false, cond, ◌&&◌, and-false}
 use mathlib.Core.Logic.{by_cases}
 use mathlib.Core.List.{List, [], ◌∷◌, ◌++◌}
 use native.Mathlib.Decide.{dec_le}
-use native.Mathlib.Nat.{mul_comm, le-div_iff_mul-le, div-lt_iff_lt-mul, zero-add}
+use native.Mathlib.Nat.{zero-add}
 use native.Mathlib.Omega.{arith}
 use borrow.Author.Tests.{eq-eqb, ne_eqb, lt-ltb, le-ltb, le-leb, lt-leb, eqb-true, leb-true}
 use lib.Dec.{eqb, leb}
-use lib.ListN.{length, take, drop, length-append, length-drop}
-use lib.Seq.{take_all}
+use lib.ListN.{length, drop, length-append}
 use Rattle.test_text.specs.Lines.{before, items, paired, hex_bytes, digits_of, decimal_from, times_of, copies, item_bytes, items_bytes, right, file_of}
-use Rattle.test_text.specs.Steps.{item_length}
-use Rattle.test_text.proofs.Before.{before_take, items_here}
-use Rattle.test_text.proofs.Digits.{bytes_length, copies_length}
+use Rattle.test_text.specs.Steps.{item_length, IsNextItem}
+use Rattle.test_text.proofs.Before.{items_next}
+use Rattle.test_text.proofs.Digits.{and_both, bytes_length, copies_length}
 
 -- tests that were passed
 some_true : (b : Bool) (bytes : List ℕ) → 0 < length (cond b bytes []) → b ≡ true
 some_true true bytes h = refl
 some_true false bytes h = absurd (omega arith)
 
-pub and_both : (a b : Bool) → (a && b) ≡ true → (a ≡ true) × (b ≡ true)
-and_both true b e = (refl, e)
-and_both false b e = let z : ◌≡◌ {A = ℕ} 0 1 = cc e in absurd (omega arith)
-
 -- how often
-module _ (item : List ℕ) (star : ℕ) (e : star ≡ length (digits_of item)) where
-  pub times_said : star < length item → times_of item ≡ decimal_from 0 (take (length item - (star + 1)) (drop (star + 1) item))
-  times_said h =
-      rw (take_all (length item - (star + 1)) (drop (star + 1) item) (omega (arith, length-drop (star + 1) item)))
-      (rw (e, lt-ltb (length (digits_of item)) (length item) (omega arith)))
+module _ (item : List ℕ) where
+  pub times_said : length (digits_of item) < length item → times_of item ≡ decimal_from 0 (drop (length (digits_of item) + 1) item)
+  times_said h = rw (lt-ltb (length (digits_of item)) (length item) h)
 
-  pub times_once : length item ≤ star → times_of item ≡ 1
-  times_once h = rw (le-ltb (length (digits_of item)) (length item) (omega arith))
-
-  pub digits_first : take star item ≡ digits_of item
-  digits_first = rw e (before_take 42 item)
+  pub times_once : length item ≤ length (digits_of item) → times_of item ≡ 1
+  times_once h = rw (le-ltb (length (digits_of item)) (length item) h)
 
 no_bytes : (b : Bool) (bytes : List ℕ) → bytes ≡ [] → length (cond b bytes []) ≡ 0
 no_bytes true bytes e = ap length e
 no_bytes false bytes e = refl
 
 -- the bytes of an item in its two forms
-module _ (item : List ℕ) (star times : ℕ) (e : star ≡ length (digits_of item)) (t : times ≡ times_of item) where
-  pub item_copies : paired (digits_of item) ≡ true → copies times (hex_bytes (take star item)) ≡ item_bytes item
+module _ (item digits : List ℕ) (times : ℕ) (e : digits ≡ digits_of item) (t : times ≡ times_of item) where
+  pub item_copies : paired digits ≡ true → copies times (hex_bytes digits) ≡ item_bytes item
   unfolding item_bytes
-  item_copies p = rw (digits_first item star e) (rw (t, p))
+  item_copies p = rw (t, ← e, p)
 
-  pub item_size : paired (take star item) ≡ true → length (item_bytes item) ≡ times * (star / 2)
+  pub item_size : paired digits ≡ true → length (item_bytes item) ≡ times * (length digits / 2)
   item_size p =
-      let digits : paired (digits_of item) ≡ true = ap paired (sym (digits_first item star e)) ∙ p in
-      let half : length (hex_bytes (take star item)) ≡ star / 2 = bytes_length (take star item) ∙ rw (digits_first item star e, e) in
-      ap length (sym (item_copies digits)) ∙ copies_length times (hex_bytes (take star item)) ∙ ap (λ (k : ℕ). times * k) half
+      ap length (sym (item_copies p)) ∙ copies_length times (hex_bytes digits) ∙ ap (λ (k : ℕ). times * k) (bytes_length digits)
 
-  pub item_never : times ≡ 0 → length (item_bytes item) ≡ 0
+  pub item_unpaired : paired digits ≡ false → length (item_bytes item) ≡ 0
   unfolding item_bytes
-  item_never z =
-      let bytes : List ℕ = hex_bytes (digits_of item) in
-      no_bytes (paired (digits_of item)) (copies (times_of item) bytes) (ap (λ (n : ℕ). copies n bytes) (sym t ∙ z))
-
-  pub item_unpaired : paired (take star item) ≡ false → length (item_bytes item) ≡ 0
-  unfolding item_bytes
-  item_unpaired p = let digits : paired (digits_of item) ≡ false = ap paired (sym (digits_first item star e)) ∙ p in rw digits
+  item_unpaired p = rw (← e, p)
 
 -- what `item_len` answers
 module _ (item : List ℕ) (room : ℕ) where
@@ -75,12 +57,23 @@ module _ (item : List ℕ) (room : ℕ) where
   pub has_length : length (item_bytes item) ≤ room → item_length item room ≡ length (item_bytes item)
   has_length h = rw (le-leb (length (item_bytes item)) room h)
 
--- the division tells whether so many copies have room, and their product is then no number that is too large
-pub fits_room : (size room times : ℕ) → 0 < times → size ≤ room / times → times * size ≤ room
-fits_room size room times h l = omega (arith, (le-div_iff_mul-le h).0 l, mul_comm times size)
+-- what `item_len` answers, by the digits of an item and how often their bytes stand there
+module _ (item digits : List ℕ) (times room : ℕ) (e : digits ≡ digits_of item) (t : times ≡ times_of item) where
+  pub len_unpaired : paired digits ≡ false → 0 ≡ item_length item room
+  len_unpaired p = no_length item room (item_unpaired item digits times e t p)
 
-pub over_room : (size room times : ℕ) → 0 < times → room / times < size → room < times * size
-over_room size room times h l = omega (arith, (div-lt_iff_lt-mul h).0 l, mul_comm times size)
+  pub len_none : paired digits ≡ true → times * (length digits / 2) ≡ 0 → 0 ≡ item_length item room
+  len_none p z = no_length item room (item_size item digits times e t p ∙ z)
+
+  pub len_over : paired digits ≡ true → room < times * (length digits / 2) → 0 ≡ item_length item room
+  len_over p h = too_long item room (omega (arith, item_size item digits times e t p))
+
+  pub len_fits : paired digits ≡ true → times * (length digits / 2) ≤ room → times * (length digits / 2) ≡ item_length item room
+  len_fits p h = let size = item_size item digits times e t p in sym (has_length item room (omega arith) ∙ size)
+
+pub ruleset item_laws = (len_unpaired, len_none, len_over, len_fits)
+
+pub ruleset times_laws = (times_said, times_once)
 
 -- the bytes of a list of items with so many before them; 0 where an item has none, or there is no room for it
 abbrev pub sized : ℕ → ℕ → List (List ℕ) → ℕ
@@ -174,24 +167,21 @@ unfolding item_bytes
 item_paired item h = some_true (paired (digits_of item)) (copies (times_of item) (hex_bytes (digits_of item))) h
 
 -- a turn of the loops over the items
-module _ (line : List ℕ) (at end : ℕ) (more : at < length line) (here : before 32 (drop at line) ≡ [])
-    (e : end ≡ at + 1 + length (before 32 (drop (at + 1) line))) where
-  abbrev item : List ℕ
-  item = take (end - (at + 1)) (drop (at + 1) line)
-
-  pub turn_stops : (room len : ℕ) → len ≤ room → item_length item (room - len) ≡ 0 → sized room len (items (drop at line)) ≡ 0
-  turn_stops room len h z = rw (items_here line at end more here e) (sized_stops room len item (items (drop end line)) h z)
+module _ (text item more : List ℕ) (here : before 32 text ≡ []) (next : IsNextItem text item more) where
+  pub turn_stops : (room len : ℕ) → len ≤ room → item_length item (room - len) ≡ 0 → sized room len (items text) ≡ 0
+  turn_stops room len h z = rw (items_next text item more here next) (sized_stops room len item (items more) h z)
 
   pub turn_goes_on : (room len size : ℕ) → len ≤ room → size ≡ item_length item (room - len) → (size ≡ 0 → ⊥) →
-      (sized room len (items (drop at line)) ≡ sized room (len + size) (items (drop end line))) × (len + size ≤ room)
+      (sized room len (items text) ≡ sized room (len + size) (items more)) × (len + size ≤ room)
   turn_goes_on room len size h s ne =
-      rw (items_here line at end more here e) (sized_goes_on room len item (items (drop end line)) h size s ne)
+      rw (items_next text item more here next) (sized_goes_on room len item (items more) h size s ne)
 
-  pub turn_right : right (items (drop at line)) ≡ true → (paired (digits_of item) ≡ true) × (right (items (drop end line)) ≡ true)
+  pub turn_right : right (items text) ≡ true → (paired (digits_of item) ≡ true) × (right (items more) ≡ true)
   turn_right r =
-      let next = ap right (sym (items_here line at end more here e)) in
-      let both = and_both (leb 1 (length (item_bytes item))) (right (items (drop end line))) (next ∙ r) in
+      let both = and_both (leb 1 (length (item_bytes item))) (right (items more)) (ap right (sym (items_next text item more here next)) ∙ r) in
       (item_paired item (leb-true 1 (length (item_bytes item)) both.0), both.1)
 
-  pub turn_bytes : items_bytes (items (drop at line)) ≡ item_bytes item ++ items_bytes (items (drop end line))
-  turn_bytes = ap items_bytes (items_here line at end more here e)
+  pub turn_bytes : items_bytes (items text) ≡ item_bytes item ++ items_bytes (items more)
+  turn_bytes = ap items_bytes (items_next text item more here next)
+
+pub ruleset size_laws = (no_file, file_length, turn_stops, turn_goes_on)

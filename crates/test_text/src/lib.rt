@@ -4,12 +4,13 @@
 // Defends: a line of another form, or a file for which there is no room, writes nothing.
 #![tactic(auto)]
 
-ghost use Rattle.std.specs.Prelude.{true, ◌≡◌, ◌+◌, ◌*◌, ◌<◌, ◌≤◌, length, drop, get_or};
+ghost use Rattle.std.specs.Prelude.{true, [], ◌≡◌, ◌+◌, ◌<◌, ◌≤◌, length, drop, get_or, ◌==◌, position, unwrap_or, IfNone, IfSome};
 ghost use Rattle.test_text.specs.Lines.{before, items, hex_digit, hex_byte, paired, hex_bytes, decimal_from, digits_of, times_of};
 ghost use Rattle.test_text.specs.Lines.{item_bytes, items_bytes, right, file_of, line_at, line_rule, over};
-ghost use Rattle.test_text.specs.Steps.{item_length, put};
+ghost use Rattle.test_text.specs.Steps.{item_length, IsNextItem};
 
-// A line's letter, where the next line begins, and how many bytes of the file there are.
+// A line's letter, where the next line begins, and how many bytes of the file there are. Numbers and no `Option`, since `line_rule` gives
+// numbers: 0 where there is no letter, and 0 bytes where there is no file.
 #[derive(Clone, Copy)]
 pub struct Described {
     pub letter: u8,
@@ -32,22 +33,12 @@ pub fn read_line(text: &[u8], at: usize, room: &mut [u8]) -> Described
             len: 0,
         };
     }
-    let end = find(text, at, 10);
-    let line = &text[at..end];
+    let line = up_to(&text[at..], b'\n');
+    let end = at + line.len();
     let letter = first(line);
     let len = read_file(line, room);
-    if end < text.len() {
-        return Described {
-            letter,
-            next: end + 1,
-            len,
-        };
-    }
-    Described {
-        letter,
-        next: end,
-        len,
-    }
+    let next = if end < text.len() { end + 1 } else { end };
+    Described { letter, next, len }
 }
 
 // Reads the file that a line describes into room.
@@ -57,7 +48,7 @@ fn read_file(line: &[u8], room: &mut [u8]) -> usize
     ensures room_after { room.new ≡ over (file_of line.now (length room.old)) room.old }
     ensures upper_bound { (result ≤ length room.new) × (length room.new ≡ length room.old) }
 {
-    let len = file_len(line, room.len());
+    let len = file_len(line, room.len()).unwrap_or(0);
     if 0 < len {
         write_items(line, room);
     }
@@ -68,208 +59,192 @@ fn read_file(line: &[u8], room: &mut [u8]) -> usize
 fn first(s: &[u8]) -> u8
     ensures { result ≡ get_or s.now 0 0 }
 {
-    if s.len() == 0 {
-        return 0;
-    }
-    s[0]
+    s.first().copied().unwrap_or(0)
 }
 
-// Where this byte stands next, or the end.
-#[tactic(auto, using(crate::proofs::Before::found_here, crate::proofs::Before::found_later, crate::proofs::Before::found_nowhere))]
-fn find(s: &[u8], from: usize, b: u8) -> usize
-    requires { from ≤ length s.now }
-    ensures value { result ≡ from + length (before b (drop from s.now)) }
-    ensures upper_bound { result ≤ length s.now }
+// Where this byte stands first.
+fn find(s: &[u8], b: u8) -> Option<usize>
+    ensures { result ≡ position (λ x. x == b) s.now }
 {
-    let mut at = from;
-    while at < s.len() {
-        if s[at] == b {
-            return at;
-        }
-        at += 1;
+    s.iter().position(|x| *x == b)
+}
+
+// What stands before the first such byte; all of it where there is none.
+#[tactic(auto, using(crate::proofs::Before::before_laws))]
+fn up_to(s: &[u8], b: u8) -> &[u8]
+    ensures value { result.now ≡ before b s.now }
+    ensures fits { length result.now ≤ length s.now }
+{
+    match find(s, b) {
+        Some(end) => &s[..end],
+        None => s,
     }
-    at
+}
+
+// The item behind the space at the start of a text, and what is left after it.
+fn next_item(text: &[u8]) -> Option<(&[u8], &[u8])>
+    ensures none { IfNone result (text.now ≡ []) }
+    ensures some { IfSome result (λ r. IsNextItem text.now r.0.now r.1.now) }
+{
+    let (_, more) = text.split_first()?;
+    let item = up_to(more, b' ');
+    Some((item, &more[item.len()..]))
 }
 
 // How many bytes the file of a line has.
-#[tactic(auto, using(crate::proofs::Before::space_next, crate::proofs::Sizes::no_file, crate::proofs::Sizes::turn_stops, crate::proofs::Sizes::turn_goes_on))]
-fn file_len(line: &[u8], room: usize) -> usize
-    ensures { result ≡ length (file_of line.now room) }
+#[tactic(auto, using(crate::proofs::Before::items_first, crate::proofs::Before::turn_laws, crate::proofs::Sizes::size_laws))]
+fn file_len(line: &[u8], room: usize) -> Option<usize>
+    ensures { unwrap_or result 0 ≡ length (file_of line.now room) }
 {
-    if find(line, 0, 32) != 1 {
-        return 0;
+    let letter = up_to(line, b' ');
+    if letter.len() != 1 {
+        return None;
     }
-    let mut at: usize = 1;
+    let mut left = &line[1..];
     let mut len: usize = 0;
-    while at < line.len() {
-        let start = at + 1;
-        let end = find(line, start, 32);
-        let size = item_len(&line[start..end], room - len);
-        if size == 0 {
-            return 0;
-        }
-        len += size;
-        at = end;
+    while let Some((item, more)) = next_item(left) {
+        len += item_len(item, room - len)?;
+        left = more;
     }
-    len
+    Some(len)
 }
 
-// How many bytes an item has, 0 where there is not so much room.
-#[tactic(auto, using(crate::proofs::Sizes::item_never, crate::proofs::Sizes::no_length, crate::proofs::Sizes::fits_room))]
-fn item_len(item: &[u8], room: usize) -> usize
-    ensures { result ≡ item_length item.now room }
+// The digits of an item, and how often the bytes that they say stand there.
+#[derive(Clone, Copy)]
+struct Item<'a> {
+    digits: &'a [u8],
+    times: usize,
+}
+
+// An item of a line. Where no number stands after `*`, its bytes stand there 0 times.
+#[tactic(auto, using(crate::proofs::Sizes::times_laws))]
+fn item_of(text: &[u8]) -> Item<'_>
+    ensures digits { result.digits.now ≡ digits_of text.now }
+    ensures times { result.times ≡ times_of text.now }
 {
-    let star = find(item, 0, 42);
-    let times = times_of(item, star);
-    if times == 0 {
-        return 0;
-    }
-    if !paired(&item[..star]) {
-        return 0;
-    }
-    let size = star / 2;
-    if room / times < size {
-        return 0;
-    }
-    times * size
+    let digits = up_to(text, b'*');
+    let times = match text.get(digits.len() + 1..) {
+        Some(number) => decimal(number).unwrap_or(0),
+        None => 1,
+    };
+    Item { digits, times }
 }
 
-// How often the bytes of an item are repeated.
-#[tactic(auto, using(crate::proofs::Sizes::times_said, crate::proofs::Sizes::times_once))]
-fn times_of(item: &[u8], star: usize) -> usize
-    requires { star ≡ length (digits_of item.now) }
-    ensures { result ≡ times_of item.now }
+// How many bytes an item has, where it has some, and there is so much room.
+#[tactic(auto, using(crate::proofs::Sizes::item_laws))]
+fn item_len(text: &[u8], room: usize) -> Option<usize>
+    ensures value { unwrap_or result 0 ≡ item_length text.now room }
+    ensures bounds { IfSome result (λ n. (0 < n) × (n ≤ room)) }
 {
-    if star < item.len() {
-        let from = star + 1;
-        return decimal(&item[from..]);
+    let item = item_of(text);
+    if !paired(item.digits) {
+        return None;
     }
-    1
+    let len = item.times.checked_mul(item.digits.len() / 2)?;
+    if len == 0 || room < len {
+        return None;
+    }
+    Some(len)
 }
 
-// A decimal number, 0 where it is none.
+// A decimal number of at most 65,535.
 #[tactic(auto, using(crate::proofs::Digits::decimal_laws))]
-fn decimal(s: &[u8]) -> usize
-    ensures { result ≡ decimal_from 0 s.now }
+fn decimal(s: &[u8]) -> Option<usize>
+    ensures { unwrap_or result 0 ≡ decimal_from 0 s.now }
 {
-    let mut at: usize = 0;
     let mut value: usize = 0;
-    while at < s.len() {
-        let digit = hex_digit(s[at]) as usize;
+    for b in s {
+        let digit = hex_digit(*b)? as usize;
         if 9 < digit {
-            return 0;
+            return None;
         }
         value = 10 * value + digit;
         if 65535 < value {
-            return 0;
+            return None;
         }
-        at += 1;
     }
-    value
+    Some(value)
 }
 
 // Whether these are pairs of hex digits.
-#[tactic(auto, using(crate::proofs::Digits::paired_again, crate::proofs::Digits::paired_never, crate::proofs::Digits::paired_last))]
+#[tactic(auto, using(crate::proofs::Digits::start_laws))]
 fn paired(s: &[u8]) -> bool
     ensures { result ≡ paired s.now }
 {
-    let mut at: usize = 0;
-    while 1 < s.len() - at {
-        if 255 < hex_byte(s[at], s[at + 1]) {
+    let mut left = s;
+    while let [high, low, more @ ..] = left {
+        if hex_byte(*high, *low).is_none() {
             return false;
         }
-        at += 2;
+        left = more;
     }
-    at == s.len()
+    left.is_empty()
 }
 
-// The byte of two hex digits, 256 where one of them is none.
-#[tactic(auto, using(crate::proofs::Digits::byte_both, crate::proofs::Digits::byte_high, crate::proofs::Digits::byte_low))]
-fn hex_byte(high: u8, low: u8) -> u16
-    ensures { result ≡ hex_byte high low }
+// The byte of two hex digits.
+#[tactic(auto, using(crate::proofs::Digits::byte_laws))]
+fn hex_byte(high: u8, low: u8) -> Option<u8>
+    ensures { unwrap_or result 256 ≡ hex_byte high low }
 {
-    let sixteens = hex_digit(high) as u16;
-    let ones = hex_digit(low) as u16;
-    if 15 < sixteens {
-        return 256;
-    }
-    if 15 < ones {
-        return 256;
-    }
-    16 * sixteens + ones
+    Some(16 * hex_digit(high)? + hex_digit(low)?)
 }
 
-// The value of a hex digit, 16 where it is none.
+// The value of a hex digit.
 #[tactic(auto, using(crate::proofs::Digits::digit_laws))]
-fn hex_digit(b: u8) -> u8
-    ensures value { result ≡ hex_digit b }
-    ensures upper_bound { result ≤ 16 }
+fn hex_digit(b: u8) -> Option<u8>
+    ensures value { unwrap_or result 16 ≡ hex_digit b }
+    ensures upper_bound { IfSome result (λ d. d ≤ 15) }
 {
-    if b < 48 {
-        return 16;
+    match b {
+        b'0'..=b'9' => Some(b - b'0'),
+        b'a'..=b'f' => Some(b - b'a' + 10),
+        _ => None,
     }
-    if b <= 57 {
-        return b - 48;
-    }
-    if b < 97 {
-        return 16;
-    }
-    if b <= 102 {
-        return b - 87;
-    }
-    16
 }
 
 // Writes the items of a line, which fit.
-#[tactic(auto, using(crate::proofs::Before::first_laws, crate::proofs::Sizes::turn_right, crate::proofs::Put::left_laws))]
+#[tactic(auto, using(crate::proofs::Sizes::turn_right, crate::proofs::Sizes::turn_bytes, crate::proofs::Put::left_laws))]
 fn write_items(line: &[u8], room: &mut [u8])
     requires line_len { length (before 32 line.now) ≡ 1 }
     requires line_value { right (items line.now) ≡ true }
     requires line_in_bounds { length (items_bytes (items line.now)) ≤ length room.old }
-    ensures { room.new ≡ put room.old 0 (items_bytes (items line.now)) }
+    ensures { room.new ≡ over (items_bytes (items line.now)) room.old }
 {
-    let mut at: usize = 1;
+    let mut left = &line[1..];
     let mut len: usize = 0;
-    while at < line.len() {
-        let start = at + 1;
-        let end = find(line, start, 32);
-        len = write_item(&line[start..end], room, len);
-        at = end;
+    while let Some((item, more)) = next_item(left) {
+        len += write_item(item, &mut room[len..]);
+        left = more;
     }
 }
 
-// Writes an item, which fits.
-#[tactic(auto, using(crate::proofs::Sizes::digits_first, crate::proofs::Sizes::item_copies, crate::proofs::Put::left_laws))]
-fn write_item(item: &[u8], room: &mut [u8], from: usize) -> usize
-    requires item_value { paired (digits_of item.now) ≡ true }
-    requires item_in_bounds { from + length (item_bytes item.now) ≤ length room.old }
-    ensures value { result ≡ from + length (item_bytes item.now) }
-    ensures room_after { room.new ≡ put room.old from (item_bytes item.now) }
+// Writes an item, which fits, and returns how many bytes it has.
+#[tactic(auto, using(crate::proofs::Digits::copy_laws, crate::proofs::Put::left_laws))]
+fn write_item(text: &[u8], room: &mut [u8]) -> usize
+    requires item_value { paired (digits_of text.now) ≡ true }
+    requires item_in_bounds { length (item_bytes text.now) ≤ length room.old }
+    ensures value { result ≡ length (item_bytes text.now) }
+    ensures room_after { room.new ≡ over (item_bytes text.now) room.old }
 {
-    let star = find(item, 0, 42);
-    let mut left = times_of(item, star);
-    let mut at = from;
-    while 0 < left {
-        at = write_digits(&item[..star], room, at);
-        left -= 1;
-    }
-    at
-}
-
-// Writes the bytes of pairs of hex digits, which fit.
-#[tactic(auto, using(crate::proofs::Digits::pair_laws, crate::proofs::Put::left_laws))]
-fn write_digits(digits: &[u8], room: &mut [u8], from: usize) -> usize
-    requires digits_value { paired digits.now ≡ true }
-    requires digits_in_bounds { from + length (hex_bytes digits.now) ≤ length room.old }
-    ensures value { result ≡ from + length (hex_bytes digits.now) }
-    ensures room_after { room.new ≡ put room.old from (hex_bytes digits.now) }
-{
-    let mut at: usize = 0;
-    let mut len = from;
-    while 1 < digits.len() - at {
-        room[len] = hex_byte(digits[at], digits[at + 1]) as u8;
-        len += 1;
-        at += 2;
+    let item = item_of(text);
+    let mut len = 0;
+    for _ in 0..item.times {
+        len += write_digits(item.digits, &mut room[len..]);
     }
     len
+}
+
+// Writes the bytes of pairs of hex digits, which fit, and returns how many they are.
+#[tactic(auto, using(crate::proofs::Digits::pair_laws, crate::proofs::Put::left_laws))]
+fn write_digits(digits: &[u8], room: &mut [u8]) -> usize
+    requires digits_value { paired digits.now ≡ true }
+    requires digits_in_bounds { length (hex_bytes digits.now) ≤ length room.old }
+    ensures value { result ≡ length (hex_bytes digits.now) }
+    ensures room_after { room.new ≡ over (hex_bytes digits.now) room.old }
+{
+    let n = digits.len() / 2;
+    for i in 0..n {
+        room[i] = hex_byte(digits[2 * i], digits[2 * i + 1]).unwrap();
+    }
+    n
 }

@@ -9,15 +9,16 @@ ghost use Rattle.resume.specs.Verdict.{verdict_rule};
 
 use file_bytes::names::Asked;
 use lines::Line;
-use std::env::FillError;
 use std::rt::Env;
 
 fn main(rt: HostRuntime) {
-    if !is_given(&rt, 1) {
+    // Argument 0 is the program's own name.
+    let mut first = [0u8; 1];
+    if !file_bytes::is_given(rt.arg(1, &mut first)) {
         judge(&rt, b".");
         return;
     }
-    if is_given(&rt, 2) {
+    if file_bytes::is_given(rt.arg(2, &mut first)) {
         usage(&rt.stderr());
         return;
     }
@@ -29,12 +30,6 @@ fn main(rt: HostRuntime) {
         Asked::Version => print(&rt, lines::version()),
         Asked::Unknown => usage(&rt.stderr()),
     }
-}
-
-// Whether there is such an argument; argument 0 is the program's own name.
-fn is_given(rt: &HostRuntime, i: usize) -> bool {
-    let mut first = [0u8; 1];
-    !matches!(rt.arg(i, &mut first), Err(FillError::NotPresent))
 }
 
 // What cannot be written is lost, and the status stays 0.

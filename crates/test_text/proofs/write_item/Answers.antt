@@ -1,38 +1,44 @@
 -- In `write_item` a copy of the bytes is what is written next, and when none is left the whole stands there.
-use Rattle.std.proofs.Common.{ℕ, ◌-◌, ◌≡◌, ap, arith, length, take, length-append}
-use Rattle.test_text.specs.Lines.{hex_bytes, item_bytes, copies}
-use Rattle.test_text.proofs.Digits.{copies_again}
-use Rattle.test_text.proofs.Put.{left_put, left_none}
+use Rattle.std.proofs.Common.{true, ◌-◌, ◌+◌, ◌≡◌, ◌∙◌, ap, arith}
+use Rattle.test_text.specs.Lines.{hex_bytes, item_bytes, copies, paired}
+use Rattle.test_text.proofs.Digits.{copies_next, copies_end}
+use Rattle.test_text.proofs.Sizes.{item_copies}
+use Rattle.test_text.proofs.Put.{left_all, left_room, left_part, left_none}
 use Rattle.test_text.proofs.write_item.Goals as goal
 
-pub write_digits-at-requires-clause-digits_in_bounds : goal.write_digits-at-requires-clause-digits_in_bounds
-write_digits-at-requires-clause-digits_in_bounds c =
-    let loop = c.loop-left in
-    let bytes = hex_bytes (take c.find-star.result c.args.item.now) in
-    omega (
-      arith,
-      loop.invariant.same,
-      loop.invariant.place,
-      ap length (copies_again loop.left bytes (omega arith)),
-      length-append bytes (copies (loop.left - 1) bytes),
-    )
+pub loop-init : goal.loop-init
+loop-init c =
+    let item = c.item_of-item in
+    let digits = item.result.digits.now in
+    let known : paired digits ≡ true = ap paired item.ensures.digits ∙ c.requires.item_value in
+    let none : item.result.times - 0 ≡ item.result.times = omega arith in
+    rw (none, item_copies c.args.text.now digits item.result.times item.ensures.digits item.ensures.times known)
+    (left_all c.args.room.now (item_bytes c.args.text.now))
 
-pub loop-left-preserved : goal.loop-left-preserved
-loop-left-preserved c =
-    let loop = c.loop-left in
-    let written = c.write_digits-at in
-    let whole = item_bytes c.args.item.now in
-    let bytes = hex_bytes (take c.find-star.result c.args.item.now) in
-    let rest = copies (loop.left - 1) bytes in
-    let more = copies_again loop.left bytes (omega arith) in
-    left_put c.args.room.now c.args.from whole loop.room loop.at (copies loop.left bytes) loop.invariant
-    bytes rest written.new.room written.result more (omega (arith, ap length more, length-append bytes rest))
-    written.ensures.room_after written.ensures.value
+pub write_digits-len-requires-clause-digits_in_bounds : goal.write_digits-len-requires-clause-digits_in_bounds
+write_digits-len-requires-clause-digits_in_bounds c =
+    let loop = c.loop in
+    let times = c.item_of-item.result.times in
+    let bytes = hex_bytes c.item_of-item.result.digits.now in
+    left_room c.args.room.now (item_bytes c.args.text.now) loop.room loop.len (copies (times - loop.counter) bytes) loop.invariant
+    bytes (copies (times - (loop.counter + 1)) bytes) (copies_next bytes times loop.counter c.loop-test.true) c.requires.item_in_bounds
 
-pub returns-clause-value : goal.returns-clause-value
-returns-clause-value c =
-    let loop = c.loop-left in
-    let bytes = hex_bytes (take c.find-star.result c.args.item.now) in
-    let none : loop.left ≡ 0 = omega arith in
-    (left_none c.args.room.now c.args.from (item_bytes c.args.item.now) loop.room loop.at (copies loop.left bytes) loop.invariant
-    (ap (λ (n : ℕ). copies n bytes) none)).0
+pub loop-preserved : goal.loop-preserved
+loop-preserved c =
+    let loop = c.loop in
+    let written = c.write_digits-len in
+    let times = c.item_of-item.result.times in
+    let bytes = hex_bytes c.item_of-item.result.digits.now in
+    left_part c.args.room.now (item_bytes c.args.text.now) loop.room loop.len (copies (times - loop.counter) bytes) loop.invariant
+    bytes (copies (times - (loop.counter + 1)) bytes) written.new.room written.result
+    (copies_next bytes times loop.counter c.loop-test.true) c.requires.item_in_bounds written.ensures.room_after written.ensures.value
+
+pub returns : goal.returns
+returns c =
+    let loop = c.loop in
+    let times = c.item_of-item.result.times in
+    let bytes = hex_bytes c.item_of-item.result.digits.now in
+    let whole =
+    left_none c.args.room.now (item_bytes c.args.text.now) loop.room loop.len (copies (times - loop.counter) bytes) loop.invariant
+    (copies_end bytes times loop.counter c.loop-test.false) in
+    record { value = whole.0; room_after = whole.1 }

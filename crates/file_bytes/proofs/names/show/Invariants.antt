@@ -1,9 +1,7 @@
--- What is shown so far stays within room. The measure is the name left.
-use Rattle.std.proofs.Common.{length, ◌-◌, ◌≤◌, ◌≡◌}
+-- Before each turn the bytes so far are shown.
+use Rattle.std.proofs.Common.{◌<◌, ◌≡◌, ℕ, slice_index}
+use Rattle.file_bytes.specs.Names.{clean}
 use Rattle.file_bytes.proofs.names.show.Given as goal
 
 abbrev pub invariant-loop-i : goal.invariant-loop-i
-invariant-loop-i l = (l.i ≤ length l.name) × (l.i ≤ length l.room) × (length l.room ≡ length l.initial.room)
-
-abbrev pub decreases-loop-i : goal.decreases-loop-i
-decreases-loop-i l = length l.name - l.i
+invariant-loop-i l = (k : ℕ) → k < l.i → slice_index l.room k ≡ clean (slice_index l.name k)

@@ -1,9 +1,0 @@
--- It stays within the arguments. The measure is the arguments left.
-use Rattle.std.proofs.Common.{◌-◌, ◌≤◌}
-use Rattle.index.proofs.asked_by.Given as goal
-
-abbrev pub invariant-loop-i : goal.invariant-loop-i
-invariant-loop-i l = l.i ≤ l.count
-
-abbrev pub decreases-loop-i : goal.decreases-loop-i
-decreases-loop-i l = l.count - l.i
