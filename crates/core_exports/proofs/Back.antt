@@ -4,17 +4,13 @@ use Rattle.ids.specs.declared.EffectSeq.{EffectSeq}
 use Prim.Native.Nat.{ℕ}
 use mathlib.Core.Path.{◌≡◌, refl, ap, sym, ◌∙◌}
 use Rattle.errors.specs.declared.KernelError.{KernelError}
-use Rattle.errors.specs.declared.KernelError.TheVariants as KernelError
 use Rattle.errors.specs.Errors.{error_number}
 use Rattle.ids.specs.declared.RunId.{RunId}
 use Rattle.ids.specs.declared.EffectIdAllocator.{EffectIdAllocator}
 use Rattle.cursor.specs.declared.State.{State}
-use Rattle.cursor.specs.declared.State.TheVariants as State
 use Rattle.cursor.specs.declared.ReplayCursor.{ReplayCursor}
 use Rattle.machine.specs.declared.Divergence.{Divergence}
-use Rattle.machine.specs.declared.Divergence.TheVariants as Divergence
 use Rattle.machine.specs.declared.Phase.{Phase}
-use Rattle.machine.specs.declared.Phase.TheVariants as Phase
 use Rattle.machine.specs.declared.ReplayMachine.{ReplayMachine}
 use Rattle.machine.specs.Divergences.{divergence_number, divergence_named}
 use Rattle.core_exports.specs.declared.IdsNumbers.{IdsNumbers}

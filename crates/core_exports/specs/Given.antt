@@ -14,21 +14,16 @@ use Rattle.ids.specs.declared.EffectSeq.{EffectSeq}
 use Rattle.ids.specs.declared.EffectIdAllocator.{EffectIdAllocator}
 use Rattle.machine.specs.declared.Divergence.{Divergence}
 use Rattle.clocks.specs.declared.ClockCapability.{ClockCapability}
-use Rattle.errors.specs.declared.KernelError.TheVariants as KernelError
 use Rattle.clocks.specs.Specs.{recorded_spec, capability_of}
 use Rattle.records.specs.Fields.{record_by}
-use Rattle.cursor.specs.declared.State.TheVariants as State
 use Rattle.cursor.specs.Readers.{cursor_at, with_failed}
-use Rattle.machine.specs.declared.Next.TheVariants as Next
-use Rattle.machine.specs.declared.Phase.TheVariants as Phase
 use Rattle.machine.specs.Divergences.{divergence_named}
 use Rattle.core_exports.specs.declared.IdsNumbers.{IdsNumbers}
 use Rattle.core_exports.specs.declared.SpecNumbers.{SpecNumbers}
 use Rattle.core_exports.specs.declared.RecordNumbers.{RecordNumbers}
 use Rattle.core_exports.specs.declared.CursorNumbers.{CursorNumbers}
 use Rattle.core_exports.specs.declared.machines.MachineNumbers.{MachineNumbers}
-use Rattle.core_exports.specs.declared.given.TurnOption.{TurnOption}
-use Rattle.core_exports.specs.declared.given.TurnOption.TheVariants as TurnOption
+use Rattle.core_exports.specs.declared.given.Turn.{Turn}
 
 -- a number that is offered or was committed, by its flag: 0 none, 1 the number
 abbrev pub offer_named : ℕ → ℕ → Option (Option EffectSeq)
@@ -134,12 +129,12 @@ next_named ended x =
     cond (eqb ended 0) (next_by (record_named x)) (cond (eqb ended 1) (Some Next.EndOfHistory) None)
 
 -- a machine with what it is asked about
-abbrev pub turn_with : Option ReplayMachine → Option Next → TurnOption
-turn_with (Some m) (Some next) = TurnOption.Some m next
-turn_with (Some m) None = TurnOption.None
-turn_with None next = TurnOption.None
+abbrev pub turn_with : Option ReplayMachine → Option Next → Option Turn
+turn_with (Some m) (Some next) = Some (record { machine = m; next = next })
+turn_with (Some m) None = None
+turn_with None next = None
 
-abbrev pub turn_named : MachineNumbers → ℕ → RecordNumbers → TurnOption
+abbrev pub turn_named : MachineNumbers → ℕ → RecordNumbers → Option Turn
 turn_named n ended x = turn_with (machine_named n) (next_named ended x)
 
 abbrev pub request_with : Option TimerSpec → Option ClockCapability → Option TimerRequest

@@ -8,7 +8,6 @@ use Rattle.machine.specs.declared.EffectRequest.{EffectRequest}
 use Rattle.machine.specs.declared.TimerRequest.{TimerRequest}
 use Rattle.machine.specs.declared.Next.{Next}
 use Rattle.machine.specs.declared.Phase.{Phase}
-use Rattle.machine.specs.declared.Phase.TheVariants as Phase
 use Rattle.machine.specs.declared.ReplayMachine.{ReplayMachine}
 use Rattle.machine.specs.Divergences.{divergence_number}
 use Rattle.machine.specs.Phases.{machine_advance_rule}
@@ -17,9 +16,8 @@ use Rattle.core_exports.specs.declared.machines.RequestNumbers.{RequestNumbers}
 use Rattle.core_exports.specs.declared.machines.PendingNumbers.{PendingNumbers}
 use Rattle.core_exports.specs.declared.machines.MachineNumbers.{MachineNumbers}
 use Rattle.core_exports.specs.declared.machines.MachineAnswered.{MachineAnswered}
-use Rattle.core_exports.specs.declared.given.TurnOption.{TurnOption}
-use Rattle.core_exports.specs.declared.given.TurnOption.TheVariants as TurnOption
-use Rattle.core_exports.specs.Numbers.{unnamed, cursor_numbers}
+use Rattle.core_exports.specs.declared.given.Turn.{Turn}
+use Rattle.core_exports.specs.Numbers.{unnamed, of_named, cursor_numbers}
 
 abbrev pub request_of : RequestNumbers → EffectRequest
 request_of n = record { kind = record { 0 = n.kind }; input_len = n.input_len; input_crc = n.input_crc }
@@ -47,8 +45,7 @@ answered m told = record { machine = machine_numbers m; answer = told }
 
 -- what is said of the machine that the numbers name; where they name none, 60
 abbrev pub of_machine : (ReplayMachine → Told) → Option ReplayMachine → Told
-of_machine says (Some m) = says m
-of_machine says None = unnamed
+of_machine = of_named
 
 -- where a number names nothing, the machine's numbers are given back as they were given, with 60
 abbrev pub machine_kept : MachineNumbers → MachineAnswered
@@ -61,9 +58,9 @@ machine_advanced_by given (Some m) None = machine_kept given
 machine_advanced_by given None x = machine_kept given
 
 -- a call with the record or the end of history
-abbrev pub called_by : MachineNumbers → (ReplayMachine → Next → MachineAnswered) → TurnOption → MachineAnswered
-called_by given call (TurnOption.Some m next) = call m next
-called_by given call TurnOption.None = machine_kept given
+abbrev pub called_by : MachineNumbers → (ReplayMachine → Next → MachineAnswered) → Option Turn → MachineAnswered
+called_by given call (Some turn) = call turn.machine turn.next
+called_by given call None = machine_kept given
 
 -- a timer's request besides
 abbrev pub requested_by : MachineNumbers → (TimerRequest → MachineAnswered) → Option TimerRequest → MachineAnswered

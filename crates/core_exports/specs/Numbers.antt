@@ -12,7 +12,6 @@ use Rattle.clocks.specs.declared.ClockCapability.{ClockCapability}
 use Rattle.clocks.specs.declared.TimerSpec.{TimerSpec}
 use Rattle.records.specs.declared.RecordRef.{RecordRef}
 use Rattle.cursor.specs.declared.State.{State}
-use Rattle.cursor.specs.declared.State.TheVariants as State
 use Rattle.cursor.specs.declared.ReplayCursor.{ReplayCursor}
 use Rattle.cursor.specs.declared.Advanced.{Advanced}
 use Rattle.cursor.specs.Advance.{advance_rule}
@@ -30,25 +29,24 @@ abbrev pub unnamed : Told
 unnamed = told0 names_nothing
 
 -- what is said of the value that the numbers name; where they name none, 60
+abbrev pub of_named : {A : Type 0} → (A → Told) → Option A → Told
+of_named says (Some x) = says x
+of_named says None = unnamed
+
 abbrev pub of_ids : (EffectIdAllocator → Told) → Option EffectIdAllocator → Told
-of_ids says (Some ids) = says ids
-of_ids says None = unnamed
+of_ids = of_named
 
 abbrev pub of_spec : (TimerSpec → Told) → Option TimerSpec → Told
-of_spec says (Some spec) = says spec
-of_spec says None = unnamed
+of_spec = of_named
 
 abbrev pub of_board : (ClockCapability → Told) → Option ClockCapability → Told
-of_board says (Some board) = says board
-of_board says None = unnamed
+of_board = of_named
 
 abbrev pub of_record : (RecordRef → Told) → Option RecordRef → Told
-of_record says (Some x) = says x
-of_record says None = unnamed
+of_record = of_named
 
 abbrev pub of_cursor : (ReplayCursor → Told) → Option ReplayCursor → Told
-of_cursor says (Some c) = says c
-of_cursor says None = unnamed
+of_cursor = of_named
 
 -- where a number names nothing, the numbers of the state are given back as they were given, with 60
 abbrev pub ids_kept : IdsNumbers → AllocatedNumbers

@@ -1,4 +1,5 @@
 // What the numbers that a caller gives name: a value, or nothing.
+// The flags `offers`, `committed` and `ended` stand beside their values since C passes them so.
 ghost use Rattle.std.specs.Prelude.{◌≡◌};
 ghost use Rattle.core_exports.specs.Given.{offer_named, ids_named, spec_named, error_named, record_named, state_named, cursor_named};
 ghost use Rattle.machine.specs.Divergences.{divergence_named};
@@ -6,18 +7,18 @@ ghost use Rattle.core_exports.specs.Given.{next_named, phase_named, machine_name
 
 use crate::machines::MachineNumbers;
 use crate::{CursorNumbers, IdsNumbers, RecordNumbers, SpecNumbers};
-use clocks::{ClockCapability, TimerSpec, };
+use clocks::{ClockCapability, TimerSpec};
 use cursor::{OpenTimer, ReplayCursor, Scheduled, State};
 use errors::KernelError;
-use ids::{ActivityKind, ClockKind, EffectIdAllocator, EffectSeq, RunId, };
+use ids::{ActivityKind, ClockKind, EffectIdAllocator, EffectSeq, RunId};
 use machine::{Divergence, Next, Phase, ReplayMachine, TimerRequest};
-use records::{Body, RecordRef, };
+use records::{Body, RecordRef};
 
 // A machine with the record or the end of history that it is asked about.
 #[derive(Clone, Copy)]
-pub enum TurnOption {
-    Some { machine: ReplayMachine, next: Next },
-    None,
+pub struct Turn {
+    pub machine: ReplayMachine,
+    pub next: Next,
 }
 
 pub(crate) fn offer_of(flag: u8, n: u32) -> Option<Option<EffectSeq>>
@@ -33,13 +34,11 @@ pub(crate) fn offer_of(flag: u8, n: u32) -> Option<Option<EffectSeq>>
 pub(crate) fn ids_of(ids: IdsNumbers) -> Option<EffectIdAllocator>
     ensures { result ≡ ids_named ids }
 {
-    match offer_of(ids.offers, ids.next) {
-        Some(next) => Some(EffectIdAllocator {
-            run: RunId(ids.run),
-            next,
-        }),
-        None => None,
-    }
+    let next = offer_of(ids.offers, ids.next)?;
+    Some(EffectIdAllocator {
+        run: RunId(ids.run),
+        next,
+    })
 }
 
 pub(crate) fn spec_of(spec: SpecNumbers) -> Option<TimerSpec>
@@ -75,8 +74,7 @@ fn error_of(n: u8) -> Option<KernelError>
 fn state_of(n: CursorNumbers) -> Option<State>
     ensures { result ≡ state_named n }
 {
-    let position = n.position;
-    match position {
+    match n.position {
         0 => Some(State::BeforeRun),
         1 => Some(State::Replaying),
         2 => Some(State::AwaitingOutcome(Scheduled {
@@ -93,10 +91,7 @@ fn state_of(n: CursorNumbers) -> Option<State>
         })),
         4 => Some(State::RunCompleted),
         5 => Some(State::RunFailed),
-        6 => match error_of(n.error) {
-            Some(error) => Some(State::Halted(error)),
-            None => None,
-        },
+        6 => error_of(n.error).map(State::Halted),
         _ => None,
     }
 }
@@ -104,15 +99,9 @@ fn state_of(n: CursorNumbers) -> Option<State>
 pub(crate) fn cursor_of(n: CursorNumbers) -> Option<ReplayCursor>
     ensures { result ≡ cursor_named n }
 {
-    match ids_of(n.ids) {
-        Some(ids) => match state_of(n) {
-            Some(state) => {
-                Some(ReplayCursor::at(ids, state).with_failed(n.failed))
-            }
-            None => None,
-        },
-        None => None,
-    }
+    let ids = ids_of(n.ids)?;
+    let state = state_of(n)?;
+    Some(ReplayCursor::at(ids, state).with_failed(n.failed))
 }
 
 fn divergence_of(n: u8) -> Option<Divergence>
@@ -138,10 +127,7 @@ fn phase_of(phase: u8, divergence: u8) -> Option<Phase>
         0 => Some(Phase::Settled),
         1 => Some(Phase::AwaitingOutcome),
         2 => Some(Phase::AwaitingFiring),
-        3 => match divergence_of(divergence) {
-            Some(d) => Some(Phase::Diverged(d)),
-            None => None,
-        },
+        3 => divergence_of(divergence).map(Phase::Diverged),
         _ => None,
     }
 }
@@ -149,51 +135,33 @@ fn phase_of(phase: u8, divergence: u8) -> Option<Phase>
 pub(crate) fn machine_of(n: MachineNumbers) -> Option<ReplayMachine>
     ensures { result ≡ machine_named n }
 {
-    match cursor_of(n.cursor) {
-        Some(cursor) => match phase_of(n.phase, n.divergence) {
-            Some(phase) => Some(ReplayMachine { cursor, phase }),
-            None => None,
-        },
-        None => None,
-    }
+    let cursor = cursor_of(n.cursor)?;
+    let phase = phase_of(n.phase, n.divergence)?;
+    Some(ReplayMachine { cursor, phase })
 }
 
 fn next_of(ended: u8, record: RecordNumbers) -> Option<Next>
     ensures { result ≡ next_named ended «record» }
 {
     match ended {
-        0 => match record_of(record) {
-            Some(x) => Some(Next::Record(x)),
-            None => None,
-        },
+        0 => record_of(record).map(Next::Record),
         1 => Some(Next::EndOfHistory),
         _ => None,
     }
 }
 
-pub(crate) fn turn_of(machine: MachineNumbers, ended: u8, record: RecordNumbers) -> TurnOption
+pub(crate) fn turn_of(machine: MachineNumbers, ended: u8, record: RecordNumbers) -> Option<Turn>
     ensures { result ≡ turn_named machine ended «record» }
 {
-    match machine_of(machine) {
-        Some(m) => match next_of(ended, record) {
-            Some(next) => TurnOption::Some { machine: m, next },
-            None => TurnOption::None,
-        },
-        None => TurnOption::None,
-    }
+    let machine = machine_of(machine)?;
+    let next = next_of(ended, record)?;
+    Some(Turn { machine, next })
 }
 
 pub(crate) fn timer_request_of(spec: SpecNumbers, capability: u8) -> Option<TimerRequest>
     ensures { result ≡ timer_request_named spec capability }
 {
-    match spec_of(spec) {
-        Some(named) => match ClockCapability::of(capability as u64) {
-            Some(board) => Some(TimerRequest {
-                spec: named,
-                capability: board,
-            }),
-            None => None,
-        },
-        None => None,
-    }
+    let spec = spec_of(spec)?;
+    let capability = ClockCapability::of(capability as u64)?;
+    Some(TimerRequest { spec, capability })
 }

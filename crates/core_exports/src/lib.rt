@@ -3,6 +3,7 @@
 // Owns: the numbers of values that cross the boundary. Must not own: a rule; each export calls the crate that has it.
 // Defends: a number that names nothing is refused with 60, and what was given is given back; it is never taken for another.
 // compare/src/ffi.rs declares these functions for Rust.
+// C passes structs of numbers, with a flag beside a number that may be absent, and calls each function by a name of its own.
 #![tactic(auto)]
 
 ghost use Rattle.std.specs.Prelude.{◌≡◌, cond};
@@ -23,10 +24,11 @@ ghost use Rattle.core_exports.specs.Numbers.{unnamed, of_ids, of_spec, of_board,
 ghost use Rattle.core_exports.specs.Numbers.{ids_numbers, allocated_numbers, allocated_by, resumed_by, bare};
 ghost use Rattle.core_exports.specs.Numbers.{cursor_numbers_for, cursor_numbers, advanced_numbers, cursor_advanced_by};
 
-use clocks::{ClockCapability, Timer, TimerSpec, };
+use answer_numbers::Tell;
+use clocks::{ClockCapability, Timer, TimerSpec};
 use cursor::{Advanced, OpenTimer, ReplayCursor, Scheduled, State};
 use errors::Told;
-use ids::{Allocated, ClockKind, EffectIdAllocator, EffectSeq, RunId, };
+use ids::{Allocated, ClockKind, EffectIdAllocator, EffectSeq, RunId};
 
 mod given;
 pub mod machines;
@@ -112,7 +114,7 @@ pub fn hiskurdo_seq_successor(seq: u32) -> Told
 pub fn hiskurdo_ids_for_run(run: u64) -> IdsNumbers
     ensures { result ≡ ids_numbers (Allocator.fresh_ids (record { 0 = run })) }
 {
-    ids_numbers(EffectIdAllocator::for_run(RunId(run)))
+    EffectIdAllocator::for_run(RunId(run)).into()
 }
 
 // `committed` 0: nothing was committed; 1: `last` was.
@@ -121,7 +123,7 @@ pub fn hiskurdo_ids_resume(run: u64, committed: u8, last: u32) -> AllocatedNumbe
 {
     match given::offer_of(committed, last) {
         Some(ended) => AllocatedNumbers {
-            ids: ids_numbers(EffectIdAllocator::resume(RunId(run), ended)),
+            ids: EffectIdAllocator::resume(RunId(run), ended).into(),
             answer: value(0),
         },
         None => ids_kept(IdsNumbers {
@@ -135,26 +137,20 @@ pub fn hiskurdo_ids_resume(run: u64, committed: u8, last: u32) -> AllocatedNumbe
 pub fn hiskurdo_ids_run(ids: IdsNumbers) -> Told
     ensures { result ≡ of_ids (λ a. told1 0 a.run.0) (ids_named ids) }
 {
-    match given::ids_of(ids) {
-        Some(a) => value(a.run().0),
-        None => names_nothing(),
-    }
+    given::ids_of(ids).map_or(names_nothing(), |a| value(a.run().0))
 }
 
 pub fn hiskurdo_ids_peek(ids: IdsNumbers) -> Told
     ensures { result ≡ of_ids (λ a. seq_option_told a.next) (ids_named ids) }
 {
-    match given::ids_of(ids) {
-        Some(a) => a.peek().told(),
-        None => names_nothing(),
-    }
+    given::ids_of(ids).map_or(names_nothing(), |a| a.peek().told())
 }
 
 pub fn hiskurdo_ids_allocate(ids: IdsNumbers) -> AllocatedNumbers
     ensures { result ≡ allocated_by ids (ids_named ids) }
 {
     match given::ids_of(ids) {
-        Some(a) => allocated_numbers(a.allocate()),
+        Some(a) => a.allocate().into(),
         None => ids_kept(ids),
     }
 }
@@ -164,28 +160,19 @@ pub fn hiskurdo_ids_allocate(ids: IdsNumbers) -> AllocatedNumbers
 pub fn hiskurdo_spec_clock_kind(spec: SpecNumbers) -> Told
     ensures { result ≡ of_spec (λ s. told1 0 (spec_clock s).0) (spec_named spec) }
 {
-    match given::spec_of(spec) {
-        Some(s) => value(s.clock_kind().0 as u64),
-        None => names_nothing(),
-    }
+    given::spec_of(spec).map_or(names_nothing(), |s| value(s.clock_kind().0 as u64))
 }
 
 pub fn hiskurdo_spec_deadline(spec: SpecNumbers) -> Told
     ensures { result ≡ of_spec (λ s. told1 0 (spec_deadline s)) (spec_named spec) }
 {
-    match given::spec_of(spec) {
-        Some(s) => value(s.deadline()),
-        None => names_nothing(),
-    }
+    given::spec_of(spec).map_or(names_nothing(), |s| value(s.deadline()))
 }
 
 pub fn hiskurdo_spec_rearmed_at(spec: SpecNumbers, recorded: u64, now: u64) -> Told
     ensures { result ≡ of_spec (λ s. told1 0 (rearmed_at s recorded now)) (spec_named spec) }
 {
-    match given::spec_of(spec) {
-        Some(s) => value(s.rearmed_at(recorded, now)),
-        None => names_nothing(),
-    }
+    given::spec_of(spec).map_or(names_nothing(), |s| value(s.rearmed_at(recorded, now)))
 }
 
 // A recorded clock is data: any may stand in a journal, and one that names no clock has no spec, which is an answer.
@@ -198,24 +185,18 @@ pub fn hiskurdo_spec_recorded(clock: u8, deadline: u64) -> Told
 pub fn hiskurdo_admits(capability: u8, spec: SpecNumbers) -> Told
     ensures { result ≡ of_board (λ b. of_spec (λ s. admits_result_told (admission b s)) (spec_named spec)) (capability_of capability) }
 {
-    match ClockCapability::of(capability as u64) {
-        Some(board) => match given::spec_of(spec) {
-            Some(s) => board.admits(s).told(),
-            None => names_nothing(),
-        },
-        None => names_nothing(),
+    match (ClockCapability::of(capability as u64), given::spec_of(spec)) {
+        (Some(board), Some(s)) => board.admits(s).told(),
+        _ => names_nothing(),
     }
 }
 
 pub fn hiskurdo_timer_arm(spec: SpecNumbers, capability: u8, now: u64) -> Told
     ensures { result ≡ of_board (λ b. of_spec (λ s. timer_result_told (armed s b now)) (spec_named spec)) (capability_of capability) }
 {
-    match ClockCapability::of(capability as u64) {
-        Some(board) => match given::spec_of(spec) {
-            Some(s) => Timer::arm(s, board, now).told(),
-            None => names_nothing(),
-        },
-        None => names_nothing(),
+    match (ClockCapability::of(capability as u64), given::spec_of(spec)) {
+        (Some(board), Some(s)) => Timer::arm(s, board, now).told(),
+        _ => names_nothing(),
     }
 }
 
@@ -223,13 +204,10 @@ pub fn hiskurdo_timer_evaluate(spec: SpecNumbers, armed_at: u64, reading: u64) -
     ensures { result ≡
         of_spec (λ s. deadline_result_told (evaluation (record { spec = s; armed_at = armed_at }) reading)) (spec_named spec) }
 {
-    match given::spec_of(spec) {
-        Some(s) => {
-            let timer = Timer { spec: s, armed_at };
-            timer.evaluate(reading).told()
-        }
-        None => names_nothing(),
-    }
+    given::spec_of(spec).map_or(names_nothing(), |s| {
+        let timer = Timer { spec: s, armed_at };
+        timer.evaluate(reading).told()
+    })
 }
 
 // Records and the cursor.
@@ -237,100 +215,73 @@ pub fn hiskurdo_timer_evaluate(spec: SpecNumbers, armed_at: u64, reading: u64) -
 pub fn hiskurdo_record_kind(record: RecordNumbers) -> Told
     ensures { result ≡ of_record (λ x. told1 0 (kind_number x)) (record_named «record») }
 {
-    match given::record_of(record) {
-        Some(x) => value(x.kind().0 as u64),
-        None => names_nothing(),
-    }
+    given::record_of(record).map_or(names_nothing(), |x| value(x.kind().0 as u64))
 }
 
 pub fn hiskurdo_cursor_new(run: u64) -> CursorNumbers
     ensures { result ≡ cursor_numbers (fresh_cursor (record { 0 = run })) }
 {
-    cursor_numbers(ReplayCursor::new(RunId(run)))
+    ReplayCursor::new(RunId(run)).into()
 }
 
 pub fn hiskurdo_cursor_run(cursor: CursorNumbers) -> Told
     ensures { result ≡ of_cursor (λ c. told1 0 (run_of c).0) (cursor_named cursor) }
 {
-    match given::cursor_of(cursor) {
-        Some(c) => value(c.run().0),
-        None => names_nothing(),
-    }
+    given::cursor_of(cursor).map_or(names_nothing(), |c| value(c.run().0))
 }
 
 pub fn hiskurdo_cursor_position(cursor: CursorNumbers) -> Told
     ensures { result ≡ of_cursor (λ c. position_told (position_of c)) (cursor_named cursor) }
 {
-    match given::cursor_of(cursor) {
-        Some(c) => answer_numbers::position_told(c.position()),
-        None => names_nothing(),
-    }
+    given::cursor_of(cursor).map_or(names_nothing(), |c| c.position().told())
 }
 
 pub fn hiskurdo_cursor_is_terminal(cursor: CursorNumbers) -> Told
     ensures { result ≡ of_cursor (λ c. told1 0 (cond (terminal_at (position_of c)) 1 0)) (cursor_named cursor) }
 {
-    match given::cursor_of(cursor) {
-        Some(c) => value(flag(c.position().is_terminal())),
-        None => names_nothing(),
-    }
+    given::cursor_of(cursor).map_or(names_nothing(), |c| value(flag(c.position().is_terminal())))
 }
 
 pub fn hiskurdo_cursor_pending(cursor: CursorNumbers) -> Told
     ensures { result ≡ of_cursor (λ c. pending_effect_option_told (pending_of c)) (cursor_named cursor) }
 {
-    match given::cursor_of(cursor) {
-        Some(c) => answer_numbers::pending_effect_told(c.pending()),
-        None => names_nothing(),
-    }
+    given::cursor_of(cursor).map_or(names_nothing(), |c| c.pending().told())
 }
 
 pub fn hiskurdo_cursor_pending_timer(cursor: CursorNumbers) -> Told
     ensures { result ≡ of_cursor (λ c. pending_timer_option_told (pending_timer_of c)) (cursor_named cursor) }
 {
-    match given::cursor_of(cursor) {
-        Some(c) => answer_numbers::pending_timer_told(c.pending_timer()),
-        None => names_nothing(),
-    }
+    given::cursor_of(cursor).map_or(names_nothing(), |c| c.pending_timer().told())
 }
 
 pub fn hiskurdo_cursor_failed(cursor: CursorNumbers) -> Told
     ensures { result ≡ of_cursor (λ c. told1 0 (failed_of c)) (cursor_named cursor) }
 {
-    match given::cursor_of(cursor) {
-        Some(c) => value(c.failed()),
-        None => names_nothing(),
-    }
+    given::cursor_of(cursor).map_or(names_nothing(), |c| value(c.failed()))
 }
 
 pub fn hiskurdo_cursor_next_seq(cursor: CursorNumbers) -> Told
     ensures { result ≡ of_cursor (λ c. seq_option_told (next_seq_of c)) (cursor_named cursor) }
 {
-    match given::cursor_of(cursor) {
-        Some(c) => c.next_seq().told(),
-        None => names_nothing(),
-    }
+    given::cursor_of(cursor).map_or(names_nothing(), |c| c.next_seq().told())
 }
 
 pub fn hiskurdo_cursor_next_effect_id(cursor: CursorNumbers) -> Told
     ensures { result ≡ of_cursor (λ c. effect_id_result_told (next_effect_id_of c)) (cursor_named cursor) }
 {
-    match given::cursor_of(cursor) {
-        Some(c) => c.next_effect_id().told(),
-        None => names_nothing(),
-    }
+    given::cursor_of(cursor).map_or(names_nothing(), |c| c.next_effect_id().told())
 }
 
 pub fn hiskurdo_cursor_advance(cursor: CursorNumbers, record: RecordNumbers) -> AdvancedNumbers
     ensures { result ≡ cursor_advanced_by cursor (cursor_named cursor) (record_named «record») }
 {
-    match given::cursor_of(cursor) {
-        Some(c) => match given::record_of(record) {
-            Some(x) => advanced_numbers(c.advance(x)),
-            None => cursor_kept(cursor),
-        },
-        None => cursor_kept(cursor),
-    }
+    let Some(c) = given::cursor_of(cursor) else {
+        return cursor_kept(cursor);
+    };
+    let Some(x) = given::record_of(record) else {
+        return cursor_kept(cursor);
+    };
+    c.advance(x).into()
 }
 
 // Values to numbers.
@@ -368,37 +319,41 @@ fn cursor_kept(cursor: CursorNumbers) -> AdvancedNumbers
     }
 }
 
+// Yes is 1, no is 0.
 fn flag(yes: bool) -> u64
     ensures { result ≡ cond yes 1 0 }
 {
-    if yes { 1 } else { 0 }
+    u64::from(yes)
 }
 
-fn ids_numbers(ids: EffectIdAllocator) -> IdsNumbers
-    ensures { result ≡ ids_numbers ids }
-{
-    let next = ids.next;
-    match next {
-        Some(seq) => IdsNumbers {
-            run: ids.run.0,
-            next: seq.0,
-            offers: 1,
-        },
-        None => IdsNumbers {
-            run: ids.run.0,
-            next: 0,
-            offers: 0,
-        },
+impl From<EffectIdAllocator> for IdsNumbers {
+    ghost from_gives = { λ ids numbers. numbers ≡ ids_numbers ids };
+
+    fn from(ids: EffectIdAllocator) -> IdsNumbers {
+        let run = ids.run.0;
+        match ids.next {
+            Some(seq) => IdsNumbers {
+                run,
+                next: seq.0,
+                offers: 1,
+            },
+            None => IdsNumbers {
+                run,
+                next: 0,
+                offers: 0,
+            },
+        }
     }
 }
 
-fn allocated_numbers(a: Allocated) -> AllocatedNumbers
-    ensures { result ≡ allocated_numbers a }
-{
-    let answer = a.answer;
-    AllocatedNumbers {
-        ids: ids_numbers(a.ids),
-        answer: answer.told(),
+impl From<Allocated> for AllocatedNumbers {
+    ghost from_gives = { λ a numbers. numbers ≡ allocated_numbers a };
+
+    fn from(a: Allocated) -> AllocatedNumbers {
+        AllocatedNumbers {
+            ids: a.ids.into(),
+            answer: a.answer.told(),
+        }
     }
 }
 
@@ -424,17 +379,11 @@ fn scheduled_numbers(ids: IdsNumbers, failed: u64, scheduled: Scheduled) -> Curs
     ensures { result ≡ cursor_numbers_for ids failed (State.AwaitingOutcome scheduled) }
 {
     CursorNumbers {
-        ids,
-        failed,
-        deadline: 0,
-        armed_at: 0,
         seq: scheduled.seq.0,
         input_crc: scheduled.input_crc,
         kind: scheduled.kind.0,
         input_len: scheduled.input_len,
-        position: 2,
-        clock_kind: 0,
-        error: 0,
+        ..bare_numbers(ids, failed, 2, 0)
     }
 }
 
@@ -442,25 +391,12 @@ fn armed_numbers(ids: IdsNumbers, failed: u64, armed: OpenTimer) -> CursorNumber
     ensures { result ≡ cursor_numbers_for ids failed (State.AwaitingTimer armed) }
 {
     CursorNumbers {
-        ids,
-        failed,
         deadline: armed.deadline,
         armed_at: armed.armed_at,
         seq: armed.seq.0,
-        input_crc: 0,
-        kind: 0,
-        input_len: 0,
-        position: 3,
         clock_kind: armed.clock_kind.0,
-        error: 0,
+        ..bare_numbers(ids, failed, 3, 0)
     }
-}
-
-fn cursor_numbers(cursor: ReplayCursor) -> CursorNumbers
-    ensures { result ≡ cursor_numbers cursor }
-{
-    let state = cursor.state;
-    state_numbers(ids_numbers(cursor.ids), cursor.failed, state)
 }
 
 fn state_numbers(ids: IdsNumbers, failed: u64, state: State) -> CursorNumbers
@@ -477,12 +413,21 @@ fn state_numbers(ids: IdsNumbers, failed: u64, state: State) -> CursorNumbers
     }
 }
 
-fn advanced_numbers(a: Advanced) -> AdvancedNumbers
-    ensures { result ≡ advanced_numbers a }
-{
-    let answer = a.answer;
-    AdvancedNumbers {
-        cursor: cursor_numbers(a.cursor),
-        answer: answer_numbers::step_result_told(answer),
+impl From<ReplayCursor> for CursorNumbers {
+    ghost from_gives = { λ cursor numbers. numbers ≡ cursor_numbers cursor };
+
+    fn from(cursor: ReplayCursor) -> CursorNumbers {
+        state_numbers(cursor.ids.into(), cursor.failed, cursor.state)
+    }
+}
+
+impl From<Advanced> for AdvancedNumbers {
+    ghost from_gives = { λ a numbers. numbers ≡ advanced_numbers a };
+
+    fn from(a: Advanced) -> AdvancedNumbers {
+        AdvancedNumbers {
+            cursor: a.cursor.into(),
+            answer: a.answer.told(),
+        }
     }
 }

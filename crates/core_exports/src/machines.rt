@@ -12,18 +12,17 @@ ghost use Rattle.answer_numbers.specs.MachineTold.{
   timer_intent_result_told,
   timer_resolve_result_told,
 };
-ghost use Rattle.errors.specs.Told.{told1};
+ghost use Rattle.errors.specs.Told.{told1, result_told};
 ghost use Rattle.core_exports.specs.Given.{record_named, machine_named, turn_named, timer_request_named};
 ghost use Rattle.core_exports.specs.MachineNumbers.{request_of, pending_from, machine_numbers_for, machine_numbers};
 ghost use Rattle.core_exports.specs.MachineNumbers.{answered, of_machine, machine_kept, machine_advanced_by, called_by, requested_by};
 
-use crate::given::{TurnOption};
 use crate::{CursorNumbers, RecordNumbers, SpecNumbers, given};
-use answer_numbers::machines as told;
+use answer_numbers::Tell;
 use cursor::PendingEffect;
 use errors::Told;
 use ids::{ActivityKind, EffectId, EffectSeq, RunId};
-use machine::{EffectRequest, Phase, ReplayMachine};
+use machine::{Answered, Divergence, EffectRequest, Phase, ReplayMachine};
 
 // An effect as it is asked for.
 #[repr(C)]
@@ -75,87 +74,67 @@ pub fn hiskurdo_divergence_from(
         run: RunId(run),
         seq: EffectSeq(seq),
     };
-    request_of(request)
-        .divergence_from(pending_from(recorded), expected)
-        .number()
+    let asked = EffectRequest::from(request);
+    Divergence::number_of(asked.divergence_from(recorded.into(), expected))
 }
 
 pub fn hiskurdo_machine_new(run: u64) -> MachineNumbers
     ensures { result ≡ machine_numbers (Phases.fresh_machine (record { 0 = run })) }
 {
-    machine_numbers(ReplayMachine::new(RunId(run)))
+    ReplayMachine::new(RunId(run)).into()
 }
 
 pub fn hiskurdo_machine_run(machine: MachineNumbers) -> Told
     ensures { result ≡ of_machine (λ m. told1 0 (run_of m.cursor).0) (machine_named machine) }
 {
-    match given::machine_of(machine) {
-        Some(m) => crate::value(m.run().0),
-        None => crate::names_nothing(),
-    }
+    given::machine_of(machine).map_or(crate::names_nothing(), |m| crate::value(m.run().0))
 }
 
 pub fn hiskurdo_machine_position(machine: MachineNumbers) -> Told
     ensures { result ≡ of_machine (λ m. position_told (position_of m.cursor)) (machine_named machine) }
 {
-    match given::machine_of(machine) {
-        Some(m) => answer_numbers::position_told(m.position()),
-        None => crate::names_nothing(),
-    }
+    given::machine_of(machine).map_or(crate::names_nothing(), |m| m.position().told())
 }
 
 pub fn hiskurdo_machine_pending(machine: MachineNumbers) -> Told
     ensures { result ≡
         of_machine (λ m. pending_effect_option_told (pending_of m.cursor)) (machine_named machine) }
 {
-    match given::machine_of(machine) {
-        Some(m) => answer_numbers::pending_effect_told(m.pending()),
-        None => crate::names_nothing(),
-    }
+    given::machine_of(machine).map_or(crate::names_nothing(), |m| m.pending().told())
 }
 
 pub fn hiskurdo_machine_pending_timer(machine: MachineNumbers) -> Told
     ensures { result ≡
         of_machine (λ m. pending_timer_option_told (pending_timer_of m.cursor)) (machine_named machine) }
 {
-    match given::machine_of(machine) {
-        Some(m) => answer_numbers::pending_timer_told(m.pending_timer()),
-        None => crate::names_nothing(),
-    }
+    given::machine_of(machine).map_or(crate::names_nothing(), |m| m.pending_timer().told())
 }
 
 pub fn hiskurdo_machine_failed(machine: MachineNumbers) -> Told
     ensures { result ≡ of_machine (λ m. told1 0 (failed_of m.cursor)) (machine_named machine) }
 {
-    match given::machine_of(machine) {
-        Some(m) => crate::value(m.failed()),
-        None => crate::names_nothing(),
-    }
+    given::machine_of(machine).map_or(crate::names_nothing(), |m| crate::value(m.failed()))
 }
 
 pub fn hiskurdo_machine_diverged(machine: MachineNumbers) -> Told
     ensures { result ≡ of_machine (λ m. told1 0 (divergence_option_number (Phases.diverged_in m.phase))) (machine_named machine) }
 {
-    match given::machine_of(machine) {
-        Some(m) => crate::value(m.diverged().number() as u64),
-        None => crate::names_nothing(),
-    }
+    given::machine_of(machine).map_or(
+        crate::names_nothing(),
+        |m| crate::value(Divergence::number_of(m.diverged()) as u64),
+    )
 }
 
 pub fn hiskurdo_machine_advance(machine: MachineNumbers, record: RecordNumbers) -> MachineAnswered
     ensures { result ≡ machine_advanced_by machine (machine_named machine) (record_named «record») }
 {
-    match given::machine_of(machine) {
-        Some(m) => match given::record_of(record) {
-            Some(x) => {
-                let done = m.advance(x);
-                let answer = done.answer;
-                return answered(done.machine, answer_numbers::step_result_told(answer));
-            }
-            None => return machine_kept(machine),
-        },
-        None => return machine_kept(machine),
-    }
+    let Some(m) = given::machine_of(machine) else {
+        return machine_kept(machine);
+    };
+    let Some(x) = given::record_of(record) else {
+        return machine_kept(machine);
+    };
+    m.advance(x).into()
 }
 
 pub fn hiskurdo_machine_intent(
@@ -171,12 +150,8 @@ pub fn hiskurdo_machine_intent(
         (turn_named machine ended «record») }
 {
     match given::turn_of(machine, ended, record) {
-        TurnOption::Some { machine: m, next } => {
-            let done = m.intent(request_of(request), next);
-            let answer = done.answer;
-            return answered(done.machine, told::intent_result_told(answer));
-        }
-        TurnOption::None => return machine_kept(machine),
+        Some(turn) => turn.machine.intent(request.into(), turn.next).into(),
+        None => machine_kept(machine),
     }
 }
 
@@ -191,12 +166,8 @@ pub fn hiskurdo_machine_outcome(
         (turn_named machine ended «record») }
 {
     match given::turn_of(machine, ended, record) {
-        TurnOption::Some { machine: m, next } => {
-            let done = m.outcome(next);
-            let answer = done.answer;
-            return answered(done.machine, told::resolve_result_told(answer));
-        }
-        TurnOption::None => return machine_kept(machine),
+        Some(turn) => turn.machine.outcome(turn.next).into(),
+        None => machine_kept(machine),
     }
 }
 
@@ -216,17 +187,13 @@ pub fn hiskurdo_machine_timer_intent(
         (turn_named machine ended «record»))
         (timer_request_named spec capability) }
 {
-    match given::timer_request_of(spec, capability) {
-        Some(request) => match given::turn_of(machine, ended, record) {
-            TurnOption::Some { machine: m, next } => {
-                let done = m.timer_intent(request, next);
-                let answer = done.answer;
-                return answered(done.machine, told::timer_intent_result_told(answer));
-            }
-            TurnOption::None => return machine_kept(machine),
-        },
-        None => return machine_kept(machine),
-    }
+    let Some(request) = given::timer_request_of(spec, capability) else {
+        return machine_kept(machine);
+    };
+    let Some(turn) = given::turn_of(machine, ended, record) else {
+        return machine_kept(machine);
+    };
+    turn.machine.timer_intent(request, turn.next).into()
 }
 
 pub fn hiskurdo_machine_timer_outcome(
@@ -240,48 +207,49 @@ pub fn hiskurdo_machine_timer_outcome(
         (turn_named machine ended «record») }
 {
     match given::turn_of(machine, ended, record) {
-        TurnOption::Some { machine: m, next } => {
-            let done = m.timer_outcome(next);
-            let answer = done.answer;
-            return answered(done.machine, told::timer_resolve_result_told(answer));
-        }
-        TurnOption::None => return machine_kept(machine),
+        Some(turn) => turn.machine.timer_outcome(turn.next).into(),
+        None => machine_kept(machine),
     }
 }
 
 // Numbers to values.
 
-fn request_of(n: RequestNumbers) -> EffectRequest
-    ensures { result ≡ request_of n }
-{
-    EffectRequest {
-        kind: ActivityKind(n.kind),
-        input_len: n.input_len,
-        input_crc: n.input_crc,
+impl From<RequestNumbers> for EffectRequest {
+    ghost from_gives = { λ n request. request ≡ request_of n };
+
+    fn from(n: RequestNumbers) -> EffectRequest {
+        EffectRequest {
+            kind: ActivityKind(n.kind),
+            input_len: n.input_len,
+            input_crc: n.input_crc,
+        }
     }
 }
 
-fn pending_from(n: PendingNumbers) -> PendingEffect
-    ensures { result ≡ pending_from n }
-{
-    PendingEffect {
-        id: EffectId {
-            run: RunId(n.run),
-            seq: EffectSeq(n.seq),
-        },
-        kind: ActivityKind(n.kind),
-        input_len: n.input_len,
-        input_crc: n.input_crc,
+impl From<PendingNumbers> for PendingEffect {
+    ghost from_gives = { λ n pending. pending ≡ pending_from n };
+
+    fn from(n: PendingNumbers) -> PendingEffect {
+        PendingEffect {
+            id: EffectId {
+                run: RunId(n.run),
+                seq: EffectSeq(n.seq),
+            },
+            kind: ActivityKind(n.kind),
+            input_len: n.input_len,
+            input_crc: n.input_crc,
+        }
     }
 }
 
 // Values to numbers.
 
-fn machine_numbers(machine: ReplayMachine) -> MachineNumbers
-    ensures { result ≡ machine_numbers machine }
-{
-    let phase = machine.phase;
-    phase_numbers(crate::cursor_numbers(machine.cursor), phase)
+impl From<ReplayMachine> for MachineNumbers {
+    ghost from_gives = { λ machine numbers. numbers ≡ machine_numbers machine };
+
+    fn from(machine: ReplayMachine) -> MachineNumbers {
+        phase_numbers(machine.cursor.into(), machine.phase)
+    }
 }
 
 fn phase_numbers(cursor: CursorNumbers, phase: Phase) -> MachineNumbers
@@ -311,12 +279,14 @@ fn phase_numbers(cursor: CursorNumbers, phase: Phase) -> MachineNumbers
     }
 }
 
-fn answered(machine: ReplayMachine, answer: Told) -> MachineAnswered
-    ensures { result ≡ answered machine answer }
-{
-    MachineAnswered {
-        machine: machine_numbers(machine),
-        answer,
+impl<A: Tell> From<Answered<A>> for MachineAnswered {
+    ghost from_gives = { λ done numbers. numbers ≡ answered done.machine (result_told A.tells done.answer) };
+
+    fn from(done: Answered<A>) -> MachineAnswered {
+        MachineAnswered {
+            machine: done.machine.into(),
+            answer: done.answer.told(),
+        }
     }
 }
 
