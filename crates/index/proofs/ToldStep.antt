@@ -1,7 +1,8 @@
 -- Where the verdict is 45, the words show the step at which the run was completed, as the promise of demand 3 says it (`TooSoon`).
+use Rattle.histories.specs.declared.Refused.{Refused}
 use Rattle.std.specs.Prelude.{Result, Ok, Err}
 use Prim.Native.Nat.{ℕ}
-use mathlib.Core.Path.{◌≡◌, refl, sym, subst}
+use mathlib.Core.Path.{◌≡◌, refl, ap, sym, subst}
 use mathlib.Core.List.{List}
 use lib.Dec.{T}
 use Rattle.clocks.specs.declared.ClockCapability.{ClockCapability}
@@ -26,8 +27,11 @@ ToldStep j p place divergence calls =
     (capability : ClockCapability) × ((k : ℕ) × (TooSoon capability (steps_of p) (records_of j) place k ×
     ((telling_of j p (answer_no 45 place divergence calls)).number ≡ k)))
 
+same_refusal : {r s : Refused} → ◌≡◌ {A = Answer} (Err r) (Err s) → r ≡ s
+same_refusal e = cc
+
 same_number : {n m a b c d e f : ℕ} → answer_no n a b c ≡ answer_no m d e f → n ≡ m
-same_number e = cc
+same_number e = ap (λ (r : Refused). r.number) (same_refusal e)
 
 -- 45 is no number of reading
 not_read : {n place a b c : ℕ} → answer_no 45 place a b ≡ answer_no n c 0 0 → T (among reading_numbers n) → ⊥

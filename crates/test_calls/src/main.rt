@@ -10,7 +10,7 @@ use core_exports::{CursorNumbers, IdsNumbers, RecordNumbers, SpecNumbers, machin
 use cursor::ReplayCursor;
 use errors::Told;
 use ids::RunId;
-use records::{Body, RecordRef, };
+use records::{Body, RecordRef};
 use std::io;
 use std::io::Read;
 

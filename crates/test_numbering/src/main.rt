@@ -7,7 +7,7 @@ ghost use Rattle.std.specs.Prelude.{◌≡◌};
 ghost use Rattle.test_numbering.specs.Walk.{walk_rule, Marked};
 ghost use Rattle.test_numbering.specs.Turns.{to_last_rule, replaying_with, marks_in, marks_of};
 
-use cursor::{ReplayCursor, State, Step, };
+use cursor::{ReplayCursor, State, Step};
 use ids::{EffectIdAllocator, EffectSeq, GateId, RunId};
 use machine::{Phase, ReplayMachine};
 use std::io;
