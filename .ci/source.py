@@ -2,6 +2,7 @@
 import pathlib, re
 
 ROOT = pathlib.Path(__file__).resolve().parent.parent
+TRAIT_IMPL = re.compile(r"impl(?:<(.*)>)? (\w+) for (.+) {$")
 CLAIM = re.compile(r"# ([A-Za-z_][\w-]*(?:::\w+)*)(?: ([a-z][\w-]*))?: (.+)")
 
 
@@ -17,19 +18,32 @@ def libraries():
     return sorted(p.parents[1] for p in (ROOT / "crates").glob("*/src/lib.rt"))
 
 
+def impl_name(impl):
+    """An impl of a trait as the logs name it: the words of the type, without the impl's own parameters, then the trait."""
+    own = {parameter.partition(":")[0].strip() for parameter in (impl[1] or "").split(",")}
+    return ("".join(word for word in re.findall(r"\w+", impl[3]) if word not in own) or "Unit") + impl[2]
+
+
 def functions(crate):
-    """Each public function of a library, named as its logs name it, with its `ensures` and its file's text."""
+    """Each public function of a library, named as its logs name it, with its `ensures` and its file's text. The functions of a
+    trait's impl are public too; their `ensures` is the trait's, said of the impl's ghost items, and these stand in its place."""
     found = {}
     for file in sorted((crate / "src").glob("*.rt")):
         text = file.read_text()
         module = "" if file.stem == "lib" else file.stem + "::"
-        owner, lines = "", text.splitlines()
+        owner, ghosts, lines = "", None, text.splitlines()
         for i, line in enumerate(lines):
             impl, fn = re.match(r"impl(?:<.*>)? (\w+)(?:<.*>)? {", line), re.match(r'\s*pub (?:extern "C" )?fn (\w+)', line)
+            trait, method = TRAIT_IMPL.match(line), re.match(r"    fn (\w+)", line)
             if impl:
                 owner = (module if re.search(rf"(?:struct|enum) {impl[1]}\b", text) else "") + impl[1] + "::"
+            elif trait:
+                body = lines[i:lines.index("}", i)]
+                owner, ghosts = module + impl_name(trait) + "::", "\n".join(l for l in body if l.startswith("    ghost "))
             elif line == "}":
-                owner = ""
+                owner, ghosts = "", None
+            elif method and ghosts is not None:
+                found[owner + method[1]] = (ghosts, text)
             elif fn:
                 end = next(j for j in range(i, len(lines)) if lines[j].strip() == "{" or re.search(r"\)(?: -> .*)? \{$", lines[j]))
                 ensures = "\n".join(lines[i:end]).partition("ensures")[2]
