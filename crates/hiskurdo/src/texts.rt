@@ -11,18 +11,15 @@ ghost use Rattle.hiskurdo.specs.Texts.{lent, words_for, Sized, version_number, v
 use lines::Line;
 
 // The text at the start of the buffer, or nothing where it does not fit; how many bytes were written.
+#[tactic(auto, unfolding(crate::specs::Texts::lent))]
 fn lend(room: &mut [u8], text: &[u8]) -> u64
     ensures { (result, room.new) ≡ lent text.now room.old }
 {
     if room.len() < text.len() {
         return 0;
     }
-    let mut i = 0;
-    while i < text.len() {
-        room[i] = text[i];
-        i += 1;
-    }
-    i as u64
+    room[..text.len()].copy_from_slice(text);
+    text.len() as u64
 }
 
 fn lend_line(room: &mut [u8], line: Line) -> u64

@@ -1,5 +1,5 @@
 // What `words_of` asks for beside the answer: the kind of the one entry that tells apart the words, and the number that they show.
-ghost use Rattle.std.specs.Prelude.{◌≡◌, cond, eqb};
+ghost use Rattle.std.specs.Prelude.{◌≡◌};
 ghost use Rattle.lines.specs.Telling.{entry_before, ending_kind, refused_kind, ending_shown, step_next, refused_shown, telling_of};
 
 use crate::words::Telling;
@@ -45,15 +45,12 @@ fn ending_shown(plan: &[u8], ending: Ending, stop: u64) -> u64
     ensures { result ≡ ending_shown plan.now ending stop }
 {
     match ending {
-        Ending::Due => due_shown(files::kinds::entry_of(plan, stop), stop),
+        Ending::Due => {
+            let step = files::kinds::entry_of(plan, stop);
+            if step.kind == 9 { step.a as u64 } else { stop }
+        }
         Ending::Unstarted | Ending::Done | Ending::Open | Ending::Finished => stop,
     }
-}
-
-fn due_shown(step: Entry, stop: u64) -> u64
-    ensures { result ≡ cond (eqb step.kind 9) step.a stop }
-{
-    if step.kind == 9 { step.a as u64 } else { stop }
 }
 
 // The step that comes after a record: the start, or one that closes a step.
