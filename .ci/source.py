@@ -26,8 +26,9 @@ def impl_name(impl):
 
 def functions(crate):
     """Each public function of a library, named as its logs name it, with its `ensures` and its file's text. The functions of a
-    trait's impl are public too; their `ensures` is the trait's, said of the impl's ghost items, and these stand in its place."""
+    trait's impl are public too, where the trait is; their `ensures` is the trait's, said of the impl's ghost items, and these stand in its place."""
     found = {}
+    inner = {name for file in (crate / "src").glob("*.rt") for name in re.findall(r"^(?:pub\(crate\) )?trait (\w+)", file.read_text(), flags=re.M)}
     for file in sorted((crate / "src").glob("*.rt")):
         text = file.read_text()
         module = "" if file.stem == "lib" else file.stem + "::"
@@ -37,7 +38,7 @@ def functions(crate):
             trait, method = TRAIT_IMPL.match(line), re.match(r"    fn (\w+)", line)
             if impl:
                 owner = (module if re.search(rf"(?:struct|enum) {impl[1]}\b", text) else "") + impl[1] + "::"
-            elif trait:
+            elif trait and trait[2] not in inner:
                 body = lines[i:lines.index("}", i)]
                 owner, ghosts = module + impl_name(trait) + "::", "\n".join(l for l in body if l.startswith("    ghost "))
             elif line == "}":
