@@ -33,13 +33,7 @@ before_length b (x ∷ xs) =
     by_cases (ℕ_discrete x b) (λ e. rw (before_found b x xs e) (omega arith))
     (λ ne. rw (before_other b x xs ne) (omega (arith, before_length b xs)))
 
--- it comes first
-pub before_take : (b : ℕ) (s : List ℕ) → take (length (before b s)) s ≡ before b s
-before_take b [] = refl
-before_take b (x ∷ xs) =
-    by_cases (ℕ_discrete x b) (λ e. rw (before_found b x xs e)) (λ ne. rw (before_other b x xs ne) (ap (λ (l : List ℕ). x ∷ l) (before_take b xs)))
-
--- and after it stands the byte, or nothing
+-- after it stands the byte, or nothing
 pub before_after : (b : ℕ) (s : List ℕ) → before b (drop (length (before b s)) s) ≡ []
 before_after b [] = refl
 before_after b (x ∷ xs) =
