@@ -27,19 +27,7 @@ module _ (b x : ℕ) (xs : List ℕ) where
   pub before_other : (x ≡ b → ⊥) → before b (x ∷ xs) ≡ x ∷ before b xs
   before_other ne = rw (ne_eqb x b ne)
 
-pub before_length : (b : ℕ) (s : List ℕ) → length (before b s) ≤ length s
-before_length b [] = omega arith
-before_length b (x ∷ xs) =
-    by_cases (ℕ_discrete x b) (λ e. rw (before_found b x xs e) (omega arith))
-    (λ ne. rw (before_other b x xs ne) (omega (arith, before_length b xs)))
-
--- it comes first
-pub before_take : (b : ℕ) (s : List ℕ) → take (length (before b s)) s ≡ before b s
-before_take b [] = refl
-before_take b (x ∷ xs) =
-    by_cases (ℕ_discrete x b) (λ e. rw (before_found b x xs e)) (λ ne. rw (before_other b x xs ne) (ap (λ (l : List ℕ). x ∷ l) (before_take b xs)))
-
--- and after it stands the byte, or nothing
+-- after it stands the byte, or nothing
 pub before_after : (b : ℕ) (s : List ℕ) → before b (drop (length (before b s)) s) ≡ []
 before_after b [] = refl
 before_after b (x ∷ xs) =
@@ -119,6 +107,3 @@ items_first line h =
     let all : take (length line - 1) (drop 1 line) ≡ drop (length (before 32 line)) line =
     take_all (length line - 1) (drop 1 line) (omega (arith, length-drop 1 line)) ∙ ap (λ (k : ℕ). drop k line) (sym h) in
     rw all (items_after line, before_after 32 line)
-
--- where the items begin
-pub ruleset first_laws = (before_length, items_first)

@@ -128,8 +128,6 @@ module _ (bytes : List ℕ) (n i : ℕ) where
   pub copies_end : n ≤ i → copies (n - i) bytes ≡ []
   copies_end h = let none : n - i ≡ 0 = omega arith in ap (λ (k : ℕ). copies k bytes) none
 
-pub ruleset copy_laws = (copies_next, copies_end)
-
 -- a decimal number goes on at a place
 module _ (n digit : ℕ) (s : List ℕ) (at : ℕ) (h : at < length s) (e : digit ≡ hex_digit (get_or s at 0)) where
   pub decimal_again : digit ≤ 9 → 10 * n + digit ≤ 65535 → decimal_from n (drop at s) ≡ decimal_from (10 * n + digit) (drop (at + 1) s)
@@ -151,7 +149,5 @@ pub ruleset digit_laws = (digit_below, digit_decimal, digit_between, digit_lette
 pub ruleset byte_laws = (byte_both, byte_high, byte_low)
 
 pub ruleset start_laws = (paired_start, paired_end)
-
-pub ruleset pair_laws = (bytes_at, paired_at, bytes_none, byte_known, bytes_length)
 
 pub ruleset decimal_laws = (decimal_again, decimal_other, decimal_over, decimal_ends)

@@ -97,6 +97,3 @@ module _ (room₀ whole room : List ℕ) (at : ℕ) (rest : List ℕ) (h : Left 
 
   pub left_none : rest ≡ [] → (at ≡ length whole) × (room ≡ over whole room₀)
   left_none e = (omega (arith, h.place, ap length e), sym (put_none room at) ∙ ap (put room at) (sym e) ∙ h.bytes)
-
--- the laws of what is left
-pub ruleset left_laws = (left_all, left_byte, left_none, left_room, left_part)

@@ -1,14 +1,15 @@
 -- Laws of the file of a line, and of the rule of `read_line`.
 use Prim.Native.Nat.{ℕ, ◌+◌, ◌-◌, ◌≤◌, ◌<◌}
-use mathlib.Core.Path.{◌≡◌, refl, ap, sym, ◌∙◌}
+use mathlib.Core.Path.{◌≡◌, ap, sym, ◌∙◌}
 use mathlib.Core.Logic.{by_cases}
-use mathlib.Core.List.{List, [], ◌∷◌}
+use mathlib.Core.List.{List}
 use native.Mathlib.Decide.{dec_lt}
 use native.Mathlib.Nat.{add-zero}
 use native.Mathlib.Omega.{arith}
 use borrow.Author.Tests.{lt-ltb, le-ltb}
 use lib.ListN.{take, length, take, drop, get_or, drop_of_length-le, length-append, length-drop}
 use lib.Seq.{take_all}
+use Rattle.std.proofs.lemmas.List.{nil_from_length}
 use Rattle.test_text.specs.Lines.{before, items, items_bytes, file_of, line_at, line_rule, over}
 use Rattle.test_text.proofs.Sizes.{file_there}
 
@@ -22,12 +23,8 @@ module _ (line room after : List ℕ) (len : ℕ) (e : len ≡ length (file_of l
   pub file_written : 0 < len → after ≡ over (items_bytes (items line)) room → after ≡ over (file_of line (length room)) room
   file_written h a = a ∙ ap (λ (bytes : List ℕ). over bytes room) (sym (file_there line (length room) (omega arith)).3)
 
-  no_bytes : (bytes : List ℕ) → length bytes ≡ 0 → bytes ≡ []
-  no_bytes [] h = refl
-  no_bytes (x ∷ xs) h = absurd (omega arith)
-
   pub file_empty : len ≡ 0 → room ≡ over (file_of line (length room)) room
-  file_empty z = ap (λ (bytes : List ℕ). over bytes room) (sym (no_bytes (file_of line (length room)) (omega arith)))
+  file_empty z = ap (λ (bytes : List ℕ). over bytes room) (sym (nil_from_length (file_of line (length room)) (omega arith)))
 
   pub file_room : after ≡ over (file_of line (length room)) room → (len ≤ length after) × (length after ≡ length room)
   file_room a =

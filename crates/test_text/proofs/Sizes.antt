@@ -28,10 +28,6 @@ module _ (item : List ℕ) where
   pub times_once : length item ≤ length (digits_of item) → times_of item ≡ 1
   times_once h = rw (le-ltb (length (digits_of item)) (length item) h)
 
-no_bytes : (b : Bool) (bytes : List ℕ) → bytes ≡ [] → length (cond b bytes []) ≡ 0
-no_bytes true bytes e = ap length e
-no_bytes false bytes e = refl
-
 -- the bytes of an item in its two forms
 module _ (item digits : List ℕ) (times : ℕ) (e : digits ≡ digits_of item) (t : times ≡ times_of item) where
   pub item_copies : paired digits ≡ true → copies times (hex_bytes digits) ≡ item_bytes item

@@ -203,7 +203,6 @@ fn hex_digit(b: u8) -> Option<u8>
 }
 
 // Writes the items of a line, which fit.
-#[tactic(auto, using(crate::proofs::Sizes::turn_right, crate::proofs::Sizes::turn_bytes, crate::proofs::Put::left_laws))]
 fn write_items(line: &[u8], room: &mut [u8])
     requires line_len { length (before 32 line.now) ≡ 1 }
     requires line_value { right (items line.now) ≡ true }
@@ -219,7 +218,6 @@ fn write_items(line: &[u8], room: &mut [u8])
 }
 
 // Writes an item, which fits, and returns how many bytes it has.
-#[tactic(auto, using(crate::proofs::Digits::copy_laws, crate::proofs::Put::left_laws))]
 fn write_item(text: &[u8], room: &mut [u8]) -> usize
     requires item_value { paired (digits_of text.now) ≡ true }
     requires item_in_bounds { length (item_bytes text.now) ≤ length room.old }
@@ -235,7 +233,7 @@ fn write_item(text: &[u8], room: &mut [u8]) -> usize
 }
 
 // Writes the bytes of pairs of hex digits, which fit, and returns how many they are.
-#[tactic(auto, using(crate::proofs::Digits::pair_laws, crate::proofs::Put::left_laws))]
+#[tactic(auto, using(crate::proofs::Digits::bytes_none, crate::proofs::Digits::bytes_length, crate::proofs::Put::left_none))]
 fn write_digits(digits: &[u8], room: &mut [u8]) -> usize
     requires digits_value { paired digits.now ≡ true }
     requires digits_in_bounds { length (hex_bytes digits.now) ≤ length room.old }
