@@ -2,32 +2,16 @@
 // says what reading it says. The file stdout holds what a plain Rust reader says of the same files (docs/COMPARISON.md).
 #![tactic(auto)]
 
-ghost use Rattle.std.specs.Prelude.{◌<◌, ◌≤◌, length, IfOk};
+ghost use Rattle.std.specs.Prelude.{◌≤◌, length};
 
 use hiskurdo::EntryNumbers;
 use std::io;
-use std::io::Read;
 
 fn main(rt: HostRuntime) -> io::Result<()> {
     let mut text = [0u8; 65536];
-    let n = read_full(&mut rt.stdin(), &mut text)?;
+    let n = test_text::read_full(&mut rt.stdin(), &mut text)?;
     let mut file = [0u8; 32800];
     run(&rt, &text[..n], &mut file)
-}
-
-// Reads until the room is full or the input ends, and returns how many bytes were read.
-fn read_full(input: &mut impl Read, room: &mut [u8]) -> io::Result<usize>
-    ensures { IfOk result (λ n. n ≤ length room.new) }
-{
-    let mut done: usize = 0;
-    while done < room.len() {
-        let n = input.read(&mut room[done..])?;
-        if n == 0 {
-            break;
-        }
-        done += n;
-    }
-    Ok(done)
 }
 
 fn run(rt: &impl Print, text: &[u8], file: &mut [u8]) -> io::Result<()> {

@@ -3,19 +3,14 @@ use Rattle.std.specs.Prelude.{Option, None, Result}
 use Rattle.cursor.specs.declared.Step.{Step}
 use Rattle.errors.specs.declared.KernelError.{KernelError}
 use Rattle.ids.specs.declared.EffectSeq.{EffectSeq}
-use Prim.Native.Nat.{ℕ, ◌+◌, ◌<◌, ◌≤◌}
+use Prim.Native.Nat.{ℕ, ◌+◌, ◌<◌}
 use mathlib.Core.Path.{◌≡◌, refl, sym, ap, subst, ◌∙◌}
 use mathlib.Core.Bool.{Bool, true, false}
-use native.Mathlib.Omega.{arith}
 use borrow.Author.Tests.{lt-ltb, eq-eqb}
 use lib.Dec.{T}
-use mathlib.Core.List.{List, [], ◌∷◌}
-use types.Run.{OneOf, miss}
-use denote.Enum.Declared.{tag_of}
 use Rattle.records.specs.declared.RecordRef.{RecordRef}
 use Rattle.cursor.specs.declared.State.{State}
 use Rattle.cursor.specs.Advance as Cursor
-use Rattle.cursor.specs.contracts.State as the
 use Rattle.machine.specs.declared.ReplayMachine.{ReplayMachine}
 use Rattle.machine.specs.Phases.{fresh_machine, machine_advance_rule}
 use Rattle.test_numbering.specs.declared.Counted.{Counted}
@@ -41,12 +36,12 @@ begins = refl
 
 -- a fresh machine, called with the start
 pub begun : {m : ReplayMachine} {x : RecordRef} {a : Answered Step} → m ≡ fresh_machine walked_run → x ≡ start → a ≡ machine_advance_rule m x
-    → (a.machine ≡ after_markers 0) × (0 ≤ 4294967295 × Marked 0 a.machine)
+    → (a.machine ≡ after_markers 0) × Marked 0 a.machine
 begun {m} {x} {a} is by called =
     let machine : a.machine ≡ (machine_advance_rule (fresh_machine walked_run) start).machine =
     ap (λ (y : Answered Step). y.machine)
     (called ∙ (ap (λ (y : ReplayMachine). machine_advance_rule y x) is ∙ ap (machine_advance_rule (fresh_machine walked_run)) by)) in
-    (machine ∙ begins, (omega arith, subst (Marked 0) (sym machine) none))
+    (machine ∙ begins, subst (Marked 0) (sym machine) none)
 
 -- a marker with the offered number is accepted, and the next number offered
 pub takes : (n : ℕ) → n < 4294967295
@@ -91,12 +86,6 @@ pub replays : (n : ℕ) {a : Answered Step} {next : Option EffectSeq} → a ≡ 
     → a.machine.cursor.state ≡ State.Replaying
 replays n is = ap (λ (y : Answered Step). y.machine.cursor.state) is
 
--- so what is left for one that does not replay cannot be reached
-pub never_else : {A : Type 0} (s : State) → OneOf (0 ∷ 2 ∷ 3 ∷ 4 ∷ 5 ∷ 6 ∷ []) (tag_of the.the_type s) → s ≡ State.Replaying → A
-never_else s o e =
-    let tags : List ℕ = 0 ∷ 2 ∷ 3 ∷ 4 ∷ 5 ∷ 6 ∷ [] in
-    elim (miss tags 1 tt (subst (λ (y : State). OneOf tags (tag_of the.the_type y)) e o)) [ ]
-
 -- the machine made of the allocator and the phase of such a one is that one
 pub same : (n : ℕ) {a : Answered Step} {next : Option EffectSeq} → a ≡ record { machine = offering next; answer = marker_accepted n }
     → replaying_with a.machine.cursor.ids a.machine.phase ≡ a.machine
@@ -105,21 +94,10 @@ same n is =
     sym (ap (λ (y : Answered Step). y.machine) is)
 
 -- a turn of the loop
-pub turned : (n : ℕ) {next : ReplayMachine} (a : Answered Step) → n < 4294967295
-    → next ≡ a.machine → a ≡ record { machine = after_markers (n + 1); answer = marker_accepted n } → Marked (n + 1) a.machine
-    → (next ≡ after_markers (n + 1)) × (n + 1 ≤ 4294967295 × Marked (n + 1) next)
-turned n a below e is marked =
-    (e ∙ ap (λ (y : Answered Step). y.machine) is, (omega arith, subst (Marked (n + 1)) (sym e) marked))
-
--- the end of the loop
-pub at_last : (n : ℕ) {m : ReplayMachine} → 4294967295 ≤ n → (m ≡ after_markers n) × (n ≤ 4294967295 × Marked n m)
-    → ◌≡◌ {A = Counted} (record { machine = m; markers = n }) to_last_rule × Marked 4294967295 m
-at_last n {m} reached inv =
-    let is : n ≡ 4294967295 = omega arith in (
-      ap (λ (y : ReplayMachine). record { machine = y; markers = n }) inv.0 ∙
-          ap (λ (k : ℕ). record { machine = after_markers k; markers = k }) is,
-      subst (λ (k : ℕ). Marked k m) is inv.1.1,
-    )
+pub turned : (n : ℕ) {next : ReplayMachine} (a : Answered Step) → next ≡ a.machine
+    → a ≡ record { machine = after_markers (n + 1); answer = marker_accepted n } → Marked (n + 1) a.machine
+    → (next ≡ after_markers (n + 1)) × Marked (n + 1) next
+turned n a e is marked = (e ∙ ap (λ (y : Answered Step). y.machine) is, subst (Marked (n + 1)) (sym e) marked)
 
 -- one marker more than those to the last
 pub walked_is : {k : Counted} {a : Answered Step} → k ≡ to_last_rule

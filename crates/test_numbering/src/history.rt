@@ -1,13 +1,16 @@
-// The records of the walk, and those that are tried at its end.
+// The records of the walk, those that are tried at its end, and what is asked for there.
 ghost use Rattle.std.specs.Prelude.{◌≡◌};
 ghost use Rattle.test_numbering.specs.Walk as Walk;
 
+use clocks::{ClockCapability, TimerSpec};
 use ids::{ActivityKind, ClockKind, EffectSeq, GateId};
+use machine::{EffectRequest, TimerRequest};
 use records::{Body, RecordRef};
 
-fn body() -> Body {
-    Body { start: 0, len: 0 }
-}
+// The last number.
+pub(crate) const LAST: u32 = 4294967295;
+
+const NO_BODY: Body = Body { start: 0, len: 0 };
 
 pub(crate) fn start() -> RecordRef
     ensures { result ≡ Walk.start }
@@ -15,7 +18,7 @@ pub(crate) fn start() -> RecordRef
     RecordRef::RunStarted {
         workflow_kind: 1,
         workflow_version: 1,
-        input: Body { start: 0, len: 0 },
+        input: NO_BODY,
     }
 }
 
@@ -41,14 +44,14 @@ pub(crate) fn schedule(seq: u32) -> RecordRef {
 pub(crate) fn effect_completed(seq: u32) -> RecordRef {
     RecordRef::EffectCompleted {
         seq: EffectSeq(seq),
-        result: body(),
+        result: NO_BODY,
     }
 }
 
 pub(crate) fn effect_failed(seq: u32) -> RecordRef {
     RecordRef::EffectFailed {
         seq: EffectSeq(seq),
-        error: body(),
+        error: NO_BODY,
     }
 }
 
@@ -68,9 +71,26 @@ pub(crate) fn fired(seq: u32) -> RecordRef {
 }
 
 pub(crate) fn completed() -> RecordRef {
-    RecordRef::RunCompleted { result: body() }
+    RecordRef::RunCompleted { result: NO_BODY }
 }
 
 pub(crate) fn failed() -> RecordRef {
-    RecordRef::RunFailed { error: body() }
+    RecordRef::RunFailed { error: NO_BODY }
+}
+
+// The effect that is asked for.
+pub(crate) fn effect_request() -> EffectRequest {
+    EffectRequest {
+        kind: ActivityKind(1),
+        input_len: 0,
+        input_crc: 0,
+    }
+}
+
+// The timer that is asked for is persistent.
+pub(crate) fn timer_request(capability: ClockCapability) -> TimerRequest {
+    TimerRequest {
+        spec: TimerSpec::AtPersistentTime { instant: 5 },
+        capability,
+    }
 }

@@ -1,5 +1,6 @@
 // The last number, 4,294,967,295, spent by an allocator, an effect or a timer; "after it" is with no number left.
-use crate::{history, lines};
+use crate::history::{self, LAST};
+use crate::lines;
 use clocks::ClockCapability;
 use cursor::ReplayCursor;
 use ids::{ClockKind, EffectIdAllocator};
@@ -7,126 +8,112 @@ use machine::{Next, ReplayMachine};
 use std::io;
 
 pub(crate) fn cursors(rt: &impl Print, cursor: ReplayCursor) -> io::Result<()> {
-    lines::cursor_line(rt, b"last number, cursor", cursor)?;
+    lines::cursor_line(rt, "last number, cursor", cursor)?;
     let effect = lines::cursor_advance(
         rt,
-        b"last number, cursor, schedule",
+        "last number, cursor, schedule",
         cursor,
-        history::schedule(4294967295),
+        history::schedule(LAST),
     )?;
     lines::cursor_advance(
         rt,
-        b"last number, cursor, effect completed",
+        "last number, cursor, effect completed",
         effect,
-        history::effect_completed(4294967295),
+        history::effect_completed(LAST),
     )?;
     let timer = lines::cursor_advance(
         rt,
-        b"last number, cursor, timer",
+        "last number, cursor, timer",
         cursor,
-        history::timer(4294967295, ClockKind::AFTER_BOOT),
+        history::timer(LAST, ClockKind::AFTER_BOOT),
     )?;
     lines::cursor_advance(
         rt,
-        b"last number, cursor, timer fired",
+        "last number, cursor, timer fired",
         timer,
-        history::fired(4294967295),
+        history::fired(LAST),
     )?;
     Ok(())
 }
 
 pub(crate) fn allocators(rt: &impl Print, ids: EffectIdAllocator) -> io::Result<()> {
-    let spent = lines::allocate(rt, b"last number, allocate", ids)?;
-    lines::allocate(rt, b"after it, allocate", spent)?;
+    let spent = lines::allocate(rt, "last number, allocate", ids)?;
+    lines::allocate(rt, "after it, allocate", spent)?;
     Ok(())
 }
 
 pub(crate) fn effects(rt: &impl Print, machine: ReplayMachine) -> io::Result<()> {
-    lines::intent(
+    let asked = history::effect_request();
+    lines::call(
         rt,
-        b"last number, intent, end of history",
-        machine,
-        Next::EndOfHistory,
+        "last number, intent, end of history",
+        machine.intent(asked, Next::EndOfHistory),
     )?;
-    let recorded = lines::intent(
+    let recorded = lines::call(
         rt,
-        b"last number, intent, own schedule",
-        machine,
-        Next::Record(history::schedule(4294967295)),
+        "last number, intent, own schedule",
+        machine.intent(asked, Next::Record(history::schedule(LAST))),
     )?;
-    let open = lines::outcome(
+    let open = lines::call(
         rt,
-        b"last number, outcome, end of history",
-        recorded,
-        Next::EndOfHistory,
+        "last number, outcome, end of history",
+        recorded.outcome(Next::EndOfHistory),
     )?;
-    lines::advance(
+    lines::call(
         rt,
-        b"last number, delivered again, advance, effect completed",
-        open,
-        history::effect_completed(4294967295),
+        "last number, delivered again, advance, effect completed",
+        open.advance(history::effect_completed(LAST)),
     )?;
-    lines::outcome(
+    lines::call(
         rt,
-        b"last number, outcome, effect failed",
-        recorded,
-        Next::Record(history::effect_failed(4294967295)),
+        "last number, outcome, effect failed",
+        recorded.outcome(Next::Record(history::effect_failed(LAST))),
     )?;
-    let closed = lines::outcome(
+    let closed = lines::call(
         rt,
-        b"last number, outcome, effect completed",
-        recorded,
-        Next::Record(history::effect_completed(4294967295)),
+        "last number, outcome, effect completed",
+        recorded.outcome(Next::Record(history::effect_completed(LAST))),
     )?;
-    lines::intent(
+    lines::call(
         rt,
-        b"after it, intent, end of history",
-        closed,
-        Next::EndOfHistory,
+        "after it, intent, end of history",
+        closed.intent(asked, Next::EndOfHistory),
     )?;
     Ok(())
 }
 
 pub(crate) fn timers(rt: &impl Print, machine: ReplayMachine) -> io::Result<()> {
-    let both = ClockCapability::Persistent;
-    lines::timer_intent(
+    let asked = history::timer_request(ClockCapability::Persistent);
+    let own = history::timer(LAST, ClockKind::AT_PERSISTENT_TIME);
+    lines::call(
         rt,
-        b"last number, timer_intent, end of history",
-        machine,
-        both,
-        Next::EndOfHistory,
+        "last number, timer_intent, end of history",
+        machine.timer_intent(asked, Next::EndOfHistory),
     )?;
-    let recorded = lines::timer_intent(
+    let recorded = lines::call(
         rt,
-        b"last number, timer_intent, own timer",
-        machine,
-        both,
-        Next::Record(history::timer(4294967295, ClockKind::AT_PERSISTENT_TIME)),
+        "last number, timer_intent, own timer",
+        machine.timer_intent(asked, Next::Record(own)),
     )?;
-    let open = lines::timer_outcome(
+    let open = lines::call(
         rt,
-        b"last number, timer_outcome, end of history",
-        recorded,
-        Next::EndOfHistory,
+        "last number, timer_outcome, end of history",
+        recorded.timer_outcome(Next::EndOfHistory),
     )?;
-    lines::advance(
+    lines::call(
         rt,
-        b"last number, armed again, advance, timer fired",
-        open,
-        history::fired(4294967295),
+        "last number, armed again, advance, timer fired",
+        open.advance(history::fired(LAST)),
     )?;
-    let closed = lines::timer_outcome(
+    let closed = lines::call(
         rt,
-        b"last number, timer_outcome, timer fired",
-        recorded,
-        Next::Record(history::fired(4294967295)),
+        "last number, timer_outcome, timer fired",
+        recorded.timer_outcome(Next::Record(history::fired(LAST))),
     )?;
-    lines::timer_intent(
+    lines::call(
         rt,
-        b"after it, timer_intent, end of history",
-        closed,
-        both,
-        Next::EndOfHistory,
+        "after it, timer_intent, end of history",
+        closed.timer_intent(asked, Next::EndOfHistory),
     )?;
     Ok(())
 }

@@ -1,186 +1,107 @@
 // How a line is written: a label, the answer in numbers, then the whole cursor or machine.
-use clocks::{ClockCapability, TimerSpec};
+use answer_numbers::Tell;
 use cursor::ReplayCursor;
 use errors::Told;
-use ids::{ActivityKind, EffectIdAllocator};
-use machine::{EffectRequest, Next, Phase, ReplayMachine, TimerRequest};
+use ids::EffectIdAllocator;
+use machine::{Answered, Divergence, Phase, ReplayMachine};
 use records::RecordRef;
-use std::io;
+use std::{fmt, io};
 
-// Calls, each with the machine that it leaves.
+// Calls, each with the state that it leaves.
 
-pub(crate) fn advance(
+// A call of the machine.
+pub(crate) fn call<A: Tell>(
     rt: &impl Print,
-    label: &[u8],
-    machine: ReplayMachine,
-    record: RecordRef,
+    label: &str,
+    called: Answered<A>,
 ) -> io::Result<ReplayMachine> {
-    let done = machine.advance(record);
-    let answer = done.answer;
-    let after = done.machine;
-    answered(rt, label, answer_numbers::step_result_told(answer), after)?;
-    Ok(after)
-}
-
-pub(crate) fn intent(
-    rt: &impl Print,
-    label: &[u8],
-    machine: ReplayMachine,
-    next: Next,
-) -> io::Result<ReplayMachine> {
-    let request = EffectRequest {
-        kind: ActivityKind(1),
-        input_len: 0,
-        input_crc: 0,
-    };
-    let done = machine.intent(request, next);
-    let answer = done.answer;
-    let after = done.machine;
-    answered(
-        rt,
-        label,
-        answer_numbers::machines::intent_result_told(answer),
-        after,
-    )?;
-    Ok(after)
-}
-
-pub(crate) fn outcome(
-    rt: &impl Print,
-    label: &[u8],
-    machine: ReplayMachine,
-    next: Next,
-) -> io::Result<ReplayMachine> {
-    let done = machine.outcome(next);
-    let answer = done.answer;
-    let after = done.machine;
-    answered(
-        rt,
-        label,
-        answer_numbers::machines::resolve_result_told(answer),
-        after,
-    )?;
-    Ok(after)
-}
-
-// The timer that is asked for is persistent.
-pub(crate) fn timer_intent(
-    rt: &impl Print,
-    label: &[u8],
-    machine: ReplayMachine,
-    capability: ClockCapability,
-    next: Next,
-) -> io::Result<ReplayMachine> {
-    let request = TimerRequest {
-        spec: TimerSpec::AtPersistentTime { instant: 5 },
-        capability,
-    };
-    let done = machine.timer_intent(request, next);
-    let answer = done.answer;
-    let after = done.machine;
-    answered(
-        rt,
-        label,
-        answer_numbers::machines::timer_intent_result_told(answer),
-        after,
-    )?;
-    Ok(after)
-}
-
-pub(crate) fn timer_outcome(
-    rt: &impl Print,
-    label: &[u8],
-    machine: ReplayMachine,
-    next: Next,
-) -> io::Result<ReplayMachine> {
-    let done = machine.timer_outcome(next);
-    let answer = done.answer;
-    let after = done.machine;
-    answered(
-        rt,
-        label,
-        answer_numbers::machines::timer_resolve_result_told(answer),
-        after,
+    let answer = called.answer.told();
+    let after = called.machine;
+    println!(rt;
+        "{label}: answer {}, {}, phase {}, diverged {}",
+        Numbers(answer),
+        Shown(after.cursor),
+        phase_number(after.phase),
+        Divergence::number_of(after.diverged())
     )?;
     Ok(after)
 }
 
 pub(crate) fn cursor_advance(
     rt: &impl Print,
-    label: &[u8],
+    label: &str,
     cursor: ReplayCursor,
     record: RecordRef,
 ) -> io::Result<ReplayCursor> {
     let advanced = cursor.advance(record);
-    let answer = advanced.answer;
     let next = advanced.cursor;
-    answer_is(rt, label, answer_numbers::step_result_told(answer))?;
-    rt.write_all(b", ")?;
-    cursor_is(rt, next)?;
-    told(rt, b", next_effect_id", next.next_effect_id().told())?;
-    rt.write_all(b"\n")?;
+    println!(rt;
+        "{label}: answer {}, {}, next_effect_id {}",
+        Numbers(advanced.answer.told()),
+        Shown(next),
+        Numbers(next.next_effect_id().told())
+    )?;
     Ok(next)
 }
 
 pub(crate) fn allocate(
     rt: &impl Print,
-    label: &[u8],
+    label: &str,
     ids: EffectIdAllocator,
 ) -> io::Result<EffectIdAllocator> {
     let allocated = ids.allocate();
-    let answer = allocated.answer;
     let next = allocated.ids;
-    answer_is(rt, label, answer.told())?;
-    told(rt, b", peek", next.peek().told())?;
-    rt.write_all(b"\n")?;
+    println!(rt;
+        "{label}: answer {}, peek {}",
+        Numbers(allocated.answer.told()),
+        Numbers(next.peek().told())
+    )?;
     Ok(next)
+}
+
+pub(crate) fn cursor_line(rt: &impl Print, label: &str, cursor: ReplayCursor) -> io::Result<()> {
+    println!(rt;
+        "{label}: {}, next_effect_id {}",
+        Shown(cursor),
+        Numbers(cursor.next_effect_id().told())
+    )
 }
 
 // The parts of a line.
 
-pub(crate) fn count(rt: &impl Print, label: &[u8], n: u64) -> io::Result<()> {
-    say(rt, label, n)?;
-    rt.write_all(b"\n")
+// An answer's number and its five values.
+#[derive(Clone, Copy)]
+struct Numbers(Told);
+
+impl fmt::Display for Numbers {
+    fn fmt<W: fmt::Write>(&self, f: &mut fmt::Formatter<W>) -> fmt::Result {
+        let told = self.0;
+        write!(
+            f,
+            "{} {} {} {} {} {}",
+            told.number, told.a, told.b, told.c, told.d, told.e
+        )
+    }
 }
 
-pub(crate) fn cursor_line(rt: &impl Print, label: &[u8], cursor: ReplayCursor) -> io::Result<()> {
-    rt.write_all(label)?;
-    rt.write_all(b": ")?;
-    cursor_is(rt, cursor)?;
-    told(rt, b", next_effect_id", cursor.next_effect_id().told())?;
-    rt.write_all(b"\n")
-}
+// A cursor by its readers.
+#[derive(Clone, Copy)]
+struct Shown(ReplayCursor);
 
-fn answered(rt: &impl Print, label: &[u8], answer: Told, machine: ReplayMachine) -> io::Result<()> {
-    answer_is(rt, label, answer)?;
-    rt.write_all(b", ")?;
-    cursor_is(rt, machine.cursor)?;
-    let phase = machine.phase;
-    say(rt, b", phase ", phase_number(phase))?;
-    say(rt, b", diverged ", machine.diverged().number() as u64)?;
-    rt.write_all(b"\n")
-}
-
-fn answer_is(rt: &impl Print, label: &[u8], answer: Told) -> io::Result<()> {
-    rt.write_all(label)?;
-    told(rt, b": answer", answer)
-}
-
-fn cursor_is(rt: &impl Print, cursor: ReplayCursor) -> io::Result<()> {
-    let position = answer_numbers::position_told(cursor.position());
-    say(rt, b"position ", position.number)?;
-    say(rt, b" ", position.a)?;
-    told(
-        rt,
-        b", pending",
-        answer_numbers::pending_effect_told(cursor.pending()),
-    )?;
-    told(
-        rt,
-        b", pending_timer",
-        answer_numbers::pending_timer_told(cursor.pending_timer()),
-    )?;
-    told(rt, b", next_seq", cursor.next_seq().told())
+impl fmt::Display for Shown {
+    fn fmt<W: fmt::Write>(&self, f: &mut fmt::Formatter<W>) -> fmt::Result {
+        let cursor = self.0;
+        let position = cursor.position().told();
+        write!(
+            f,
+            "position {} {}, pending {}, pending_timer {}, next_seq {}",
+            position.number,
+            position.a,
+            Numbers(cursor.pending().told()),
+            Numbers(cursor.pending_timer().told()),
+            Numbers(cursor.next_seq().told())
+        )
+    }
 }
 
 fn phase_number(phase: Phase) -> u64 {
@@ -190,20 +111,4 @@ fn phase_number(phase: Phase) -> u64 {
         Phase::AwaitingFiring => 2,
         Phase::Diverged(_) => 3,
     }
-}
-
-// An answer's number and its five values.
-fn told(rt: &impl Print, label: &[u8], told: Told) -> io::Result<()> {
-    rt.write_all(label)?;
-    say(rt, b" ", told.number)?;
-    say(rt, b" ", told.a)?;
-    say(rt, b" ", told.b)?;
-    say(rt, b" ", told.c)?;
-    say(rt, b" ", told.d)?;
-    say(rt, b" ", told.e)
-}
-
-fn say(rt: &impl Print, label: &[u8], n: u64) -> io::Result<()> {
-    rt.write_all(label)?;
-    rt.print(n)
 }

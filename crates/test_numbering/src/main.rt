@@ -8,6 +8,8 @@ ghost use Rattle.test_numbering.specs.Walk.{walk_rule, Marked};
 ghost use Rattle.test_numbering.specs.Turns.{to_last_rule, replaying_with, marks_in, marks_of};
 
 use cursor::{ReplayCursor, State, Step};
+use errors::KernelError;
+use history::LAST;
 use ids::{EffectIdAllocator, EffectSeq, GateId, RunId};
 use machine::{Phase, ReplayMachine};
 use std::io;
@@ -34,19 +36,17 @@ struct Walked {
 
 fn main(rt: HostRuntime) -> io::Result<()> {
     let walked = walk();
-    let before = walked.before;
-    let machine = walked.machine;
-    lines::count(&rt, b"markers accepted ", walked.markers)?;
-    let one_left = before.cursor;
-    last::cursors(&rt, one_left)?;
-    last::allocators(&rt, one_left.ids)?;
-    last::effects(&rt, before)?;
-    last::timers(&rt, before)?;
-    let none_left = machine.cursor;
-    spent::cursors(&rt, none_left)?;
-    spent::machines(&rt, machine)?;
-    spent::effects(&rt, machine)?;
-    spent::timers(&rt, machine)
+    println!(&rt; "markers accepted {}", walked.markers)?;
+    let one_left = walked.before;
+    last::cursors(&rt, one_left.cursor)?;
+    last::allocators(&rt, one_left.cursor.ids)?;
+    last::effects(&rt, one_left)?;
+    last::timers(&rt, one_left)?;
+    let none_left = walked.machine;
+    spent::cursors(&rt, none_left.cursor)?;
+    spent::machines(&rt, none_left)?;
+    spent::effects(&rt, none_left)?;
+    spent::timers(&rt, none_left)
 }
 
 // The marker of the last number, after all the others.
@@ -55,16 +55,14 @@ fn walk() -> Walked
 {
     let counted = walk_to_last();
     let before = counted.machine;
-    let advanced = before.advance(history::marker(4294967295));
-    let answer = advanced.answer;
-    let machine = advanced.machine;
+    let called = before.advance(history::marker(LAST));
     let mut markers = counted.markers;
-    if marks(answer, 4294967295) {
+    if marks(called.answer, LAST) {
         markers += 1;
     }
     Walked {
         before,
-        machine,
+        machine: called.machine,
         markers,
     }
 }
@@ -73,36 +71,28 @@ fn walk() -> Walked
 fn walk_to_last() -> Counted
     ensures { (result ≡ to_last_rule) × Marked 4294967295 result.machine }
 {
-    let fresh = ReplayMachine::new(RunId(7));
-    let started = fresh.advance(history::start());
+    let started = ReplayMachine::new(RunId(7)).advance(history::start());
     let mut machine = started.machine;
-    let mut number: u32 = 0;
-    while number < 4294967295 {
-        let advanced = machine.advance_marker(EffectSeq(number), GateId(1), 1);
-        let answer = advanced.answer;
-        if !marks(answer, number) {
+    for number in 0..LAST {
+        let called = machine.advance_marker(EffectSeq(number), GateId(1), 1);
+        let next = called.machine;
+        if !marks(called.answer, number) {
             return Counted {
                 machine,
                 markers: number as u64,
             };
         }
-        let next = advanced.machine;
-        let cursor = next.cursor;
-        let state = cursor.state;
-        let State::Replaying = state else {
+        let State::Replaying = next.cursor.state else {
             return Counted {
                 machine,
                 markers: number as u64,
             };
         };
-        let ids = cursor.ids;
-        let phase = next.phase;
-        machine = replaying(ids, phase);
-        number += 1;
+        machine = replaying(next.cursor.ids, next.phase);
     }
     Counted {
         machine,
-        markers: number as u64,
+        markers: LAST as u64,
     }
 }
 
@@ -121,8 +111,8 @@ fn marks(answer: Result<Step, KernelError>, number: u32) -> bool
     ensures { result ≡ marks_of number answer }
 {
     match answer {
-        Ok(step) => return marks_in(step, number),
-        Err(_) => return false,
+        Ok(step) => marks_in(step, number),
+        Err(_) => false,
     }
 }
 
@@ -131,8 +121,8 @@ fn marks_in(step: Step, number: u32) -> bool
 {
     match step {
         Step::VersionMarker { id, gate, version } => {
-            return (id.run.0 == 7) & ((id.seq.0 == number) & ((gate.0 == 1) & (version == 1)));
+            (id.run.0 == 7) & ((id.seq.0 == number) & ((gate.0 == 1) & (version == 1)))
         }
-        _ => return false,
+        _ => false,
     }
 }

@@ -3,34 +3,18 @@
 // twin over the real ReplayMachine says of the same pairs (docs/COMPARISON.md).
 #![tactic(auto)]
 
-ghost use Rattle.std.specs.Prelude.{◌≤◌, length, IfOk};
+ghost use Rattle.std.specs.Prelude.{◌≤◌, length};
 
 use histories::Handed;
 use resume::handing;
 use std::io;
-use std::io::Read;
 
 fn main(rt: HostRuntime) -> io::Result<()> {
     let mut text = [0u8; 65536];
-    let n = read_full(&mut rt.stdin(), &mut text)?;
+    let n = test_text::read_full(&mut rt.stdin(), &mut text)?;
     let mut journal = [0u8; 32800];
     let mut plan = [0u8; 32800];
     run(&rt, &text[..n], &mut journal, &mut plan)
-}
-
-// Reads until the room is full or the input ends, and returns how many bytes were read.
-fn read_full(input: &mut impl Read, room: &mut [u8]) -> io::Result<usize>
-    ensures { IfOk result (λ n. n ≤ length room.new) }
-{
-    let mut done: usize = 0;
-    while done < room.len() {
-        let n = input.read(&mut room[done..])?;
-        if n == 0 {
-            break;
-        }
-        done += n;
-    }
-    Ok(done)
 }
 
 fn run(rt: &impl Print, text: &[u8], journal: &mut [u8], plan: &mut [u8]) -> io::Result<()> {

@@ -1,6 +1,6 @@
 // Files as text: a line that describes the bytes of one file, for the programs that read stored lists of files.
 //
-// Owns: the form of a line (docs/COMPARISON.md, "The stored lists"). Must not own: what the file is read as.
+// Owns: the form of a line (docs/COMPARISON.md, "The stored lists"), and reading the whole list. Must not own: what the file is read as.
 // Defends: a line of another form, or a file for which there is no room, writes nothing.
 #![tactic(auto)]
 
@@ -8,6 +8,9 @@ ghost use Rattle.std.specs.Prelude.{true, [], ◌≡◌, ◌+◌, ◌<◌, ◌�
 ghost use Rattle.test_text.specs.Lines.{before, items, hex_digit, hex_byte, paired, hex_bytes, decimal_from, digits_of, times_of};
 ghost use Rattle.test_text.specs.Lines.{item_bytes, items_bytes, right, file_of, line_at, line_rule, over};
 ghost use Rattle.test_text.specs.Steps.{item_length, IsNextItem};
+
+mod reading;
+pub use reading::read_full;
 
 // A line's letter, where the next line begins, and how many bytes of the file there are. Numbers and no `Option`, since `line_rule` gives
 // numbers: 0 where there is no letter, and 0 bytes where there is no file.

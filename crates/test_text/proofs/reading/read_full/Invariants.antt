@@ -1,6 +1,6 @@
 -- In `read_full` what was read fits the room; the measure is the room left.
 use Rattle.std.proofs.Common.{◌≤◌, ◌-◌, length}
-use Rattle.test_calls.proofs.read_full.Given as goal
+use Rattle.test_text.proofs.reading.read_full.Given as goal
 
 abbrev pub invariant-loop-done : goal.invariant-loop-done
 invariant-loop-done g l = l.done ≤ length l.room

@@ -1,9 +1,0 @@
--- In `read_full` what was read fits the room; the measure is the room left.
-use Rattle.std.proofs.Common.{◌≤◌, ◌-◌, length}
-use Rattle.test_files.proofs.read_full.Given as goal
-
-abbrev pub invariant-loop-done : goal.invariant-loop-done
-invariant-loop-done g l = l.done ≤ length l.room
-
-abbrev pub decreases-loop-done : goal.decreases-loop-done
-decreases-loop-done g l = length l.room - l.done
