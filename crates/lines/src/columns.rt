@@ -118,6 +118,7 @@ fn what_at(plan: &[u8], ending: Ending, stop: u64) -> Line
 }
 
 // What an entry of a plan is.
+// Its kind stays a number: `entry_text` takes the byte that the file has.
 fn what_is(e: Entry) -> Line
     ensures { Holds result (entry_text e) }
 {

@@ -9,6 +9,7 @@ use endings::Ending;
 use histories::Answer;
 
 // What the words of an answer depend on beside it: the kind of one entry, and the number that they show.
+// The kind stays a number: `ending_detail` and `detail_of` of the specs take the byte that the file has.
 #[derive(Clone, Copy)]
 pub struct Telling {
     pub kind: u8,
@@ -40,6 +41,7 @@ pub(crate) fn fill(text: &[u8], n: u64) -> Line
 }
 
 // The table: the number of a refusal (0 of an ending), the detail, the words; `#` stands for the number that is told.
+// Number and detail stay numbers: `words_in` takes them so. One `match`, however long, since it is a table.
 fn row(number: u64, detail: u64) -> &'static [u8]
     ensures { result.now ≡ ascii (words_in table number detail) }
 {
