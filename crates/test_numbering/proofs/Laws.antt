@@ -11,6 +11,8 @@ use lib.Dec.{T}
 use Rattle.records.specs.declared.RecordRef.{RecordRef}
 use Rattle.cursor.specs.declared.State.{State}
 use Rattle.cursor.specs.Advance as Cursor
+use Rattle.ids.specs.declared.EffectIdAllocator.{EffectIdAllocator}
+use Rattle.machine.specs.declared.Phase.{Phase}
 use Rattle.machine.specs.declared.ReplayMachine.{ReplayMachine}
 use Rattle.machine.specs.Phases.{fresh_machine, machine_advance_rule}
 use Rattle.test_numbering.specs.declared.Counted.{Counted}
@@ -86,18 +88,20 @@ pub replays : (n : ℕ) {a : Answered Step} {next : Option EffectSeq} → a ≡ 
     → a.machine.cursor.state ≡ State.Replaying
 replays n is = ap (λ (y : Answered Step). y.machine.cursor.state) is
 
--- the machine made of the allocator and the phase of such a one is that one
-pub same : (n : ℕ) {a : Answered Step} {next : Option EffectSeq} → a ≡ record { machine = offering next; answer = marker_accepted n }
-    → replaying_with a.machine.cursor.ids a.machine.phase ≡ a.machine
-same n is =
-    ap (λ (y : Answered Step). replaying_with y.machine.cursor.ids y.machine.phase) is ∙
-    sym (ap (λ (y : Answered Step). y.machine) is)
+-- What the loop carries along of a machine: its allocator and its phase.
+module _ (n : ℕ) {m : ReplayMachine} where
+  -- they are those of the same machine again
+  pub carried : m ≡ after_markers n → Marked n m
+      → (replaying_with m.cursor.ids m.phase ≡ after_markers n) × Marked n (replaying_with m.cursor.ids m.phase)
+  carried is marked =
+      let again : replaying_with m.cursor.ids m.phase ≡ after_markers n = ap (λ (y : ReplayMachine). replaying_with y.cursor.ids y.phase) is in
+      (again, subst (Marked n) (is ∙ sym again) marked)
 
--- a turn of the loop
-pub turned : (n : ℕ) {next : ReplayMachine} (a : Answered Step) → next ≡ a.machine
-    → a ≡ record { machine = after_markers (n + 1); answer = marker_accepted n } → Marked (n + 1) a.machine
-    → (next ≡ after_markers (n + 1)) × Marked (n + 1) next
-turned n a e is marked = (e ∙ ap (λ (y : Answered Step). y.machine) is, subst (Marked (n + 1)) (sym e) marked)
+  -- so the machine made of them is that one
+  pub remade : {ids : EffectIdAllocator} {phase : Phase} → m ≡ replaying_with ids phase
+      → (replaying_with ids phase ≡ after_markers n) × Marked n (replaying_with ids phase)
+      → (m ≡ after_markers n) × Marked n m
+  remade by before = (by ∙ before.0, subst (Marked n) (sym by) before.1)
 
 -- one marker more than those to the last
 pub walked_is : {k : Counted} {a : Answered Step} → k ≡ to_last_rule

@@ -67,31 +67,35 @@ fn walk() -> Walked
     }
 }
 
-// From a fresh machine: the start, then a marker for each number but the last, as long as they are accepted.
+// From a fresh machine: the start, then a marker for each number but the last, as long as they are accepted. Only the two parts that
+// can change are carried along.
 fn walk_to_last() -> Counted
     ensures { (result ≡ to_last_rule) × Marked 4294967295 result.machine }
 {
     let started = ReplayMachine::new(RunId(7)).advance(history::start());
-    let mut machine = started.machine;
+    let mut ids = started.machine.cursor.ids;
+    let mut phase = started.machine.phase;
     for number in 0..LAST {
+        let machine = replaying(ids, phase);
         let called = machine.advance_marker(EffectSeq(number), GateId(1), 1);
-        let next = called.machine;
         if !marks(called.answer, number) {
             return Counted {
                 machine,
                 markers: number as u64,
             };
         }
+        let next = called.machine;
         let State::Replaying = next.cursor.state else {
             return Counted {
                 machine,
                 markers: number as u64,
             };
         };
-        machine = replaying(next.cursor.ids, next.phase);
+        ids = next.cursor.ids;
+        phase = next.phase;
     }
     Counted {
-        machine,
+        machine: replaying(ids, phase),
         markers: LAST as u64,
     }
 }
