@@ -12,7 +12,7 @@ use Rattle.records.specs.declared.RecordRef.{RecordRef}
 use Rattle.cursor.specs.declared.State.{State}
 use Rattle.cursor.specs.Advance as Cursor
 use Rattle.ids.specs.declared.EffectIdAllocator.{EffectIdAllocator}
-use Rattle.machine.specs.declared.Phase.{Phase}
+use Rattle.machine.specs.declared.Phase.TheVariants as Phase
 use Rattle.machine.specs.declared.ReplayMachine.{ReplayMachine}
 use Rattle.machine.specs.Phases.{fresh_machine, machine_advance_rule}
 use Rattle.test_numbering.specs.declared.Counted.{Counted}
@@ -88,18 +88,24 @@ pub replays : (n : ℕ) {a : Answered Step} {next : Option EffectSeq} → a ≡ 
     → a.machine.cursor.state ≡ State.Replaying
 replays n is = ap (λ (y : Answered Step). y.machine.cursor.state) is
 
--- What the loop carries along of a machine: its allocator and its phase.
+-- and settled
+pub settled : (n : ℕ) {a : Answered Step} {next : Option EffectSeq} → a ≡ record { machine = offering next; answer = marker_accepted n }
+    → a.machine.phase ≡ Phase.Settled
+settled n is = ap (λ (y : Answered Step). y.machine.phase) is
+
+-- What the loop carries along of a machine is its allocator.
 module _ (n : ℕ) {m : ReplayMachine} where
-  -- they are those of the same machine again
+  -- it is that of the same machine again
   pub carried : m ≡ after_markers n → Marked n m
-      → (replaying_with m.cursor.ids m.phase ≡ after_markers n) × Marked n (replaying_with m.cursor.ids m.phase)
+      → (replaying_with m.cursor.ids Phase.Settled ≡ after_markers n) × Marked n (replaying_with m.cursor.ids Phase.Settled)
   carried is marked =
-      let again : replaying_with m.cursor.ids m.phase ≡ after_markers n = ap (λ (y : ReplayMachine). replaying_with y.cursor.ids y.phase) is in
+      let again : replaying_with m.cursor.ids Phase.Settled ≡ after_markers n =
+      ap (λ (y : ReplayMachine). replaying_with y.cursor.ids Phase.Settled) is in
       (again, subst (Marked n) (is ∙ sym again) marked)
 
-  -- so the machine made of them is that one
-  pub remade : {ids : EffectIdAllocator} {phase : Phase} → m ≡ replaying_with ids phase
-      → (replaying_with ids phase ≡ after_markers n) × Marked n (replaying_with ids phase)
+  -- so the machine made of it is that one
+  pub remade : {ids : EffectIdAllocator} → m ≡ replaying_with ids Phase.Settled
+      → (replaying_with ids Phase.Settled ≡ after_markers n) × Marked n (replaying_with ids Phase.Settled)
       → (m ≡ after_markers n) × Marked n m
   remade by before = (by ∙ before.0, subst (Marked n) (sym by) before.1)
 
