@@ -11,6 +11,8 @@ use lib.Dec.{T}
 use Rattle.records.specs.declared.RecordRef.{RecordRef}
 use Rattle.cursor.specs.declared.State.{State}
 use Rattle.cursor.specs.Advance as Cursor
+use Rattle.ids.specs.declared.EffectIdAllocator.{EffectIdAllocator}
+use Rattle.machine.specs.declared.Phase.TheVariants as Phase
 use Rattle.machine.specs.declared.ReplayMachine.{ReplayMachine}
 use Rattle.machine.specs.Phases.{fresh_machine, machine_advance_rule}
 use Rattle.test_numbering.specs.declared.Counted.{Counted}
@@ -86,18 +88,26 @@ pub replays : (n : ℕ) {a : Answered Step} {next : Option EffectSeq} → a ≡ 
     → a.machine.cursor.state ≡ State.Replaying
 replays n is = ap (λ (y : Answered Step). y.machine.cursor.state) is
 
--- the machine made of the allocator and the phase of such a one is that one
-pub same : (n : ℕ) {a : Answered Step} {next : Option EffectSeq} → a ≡ record { machine = offering next; answer = marker_accepted n }
-    → replaying_with a.machine.cursor.ids a.machine.phase ≡ a.machine
-same n is =
-    ap (λ (y : Answered Step). replaying_with y.machine.cursor.ids y.machine.phase) is ∙
-    sym (ap (λ (y : Answered Step). y.machine) is)
+-- and settled
+pub settled : (n : ℕ) {a : Answered Step} {next : Option EffectSeq} → a ≡ record { machine = offering next; answer = marker_accepted n }
+    → a.machine.phase ≡ Phase.Settled
+settled n is = ap (λ (y : Answered Step). y.machine.phase) is
 
--- a turn of the loop
-pub turned : (n : ℕ) {next : ReplayMachine} (a : Answered Step) → next ≡ a.machine
-    → a ≡ record { machine = after_markers (n + 1); answer = marker_accepted n } → Marked (n + 1) a.machine
-    → (next ≡ after_markers (n + 1)) × Marked (n + 1) next
-turned n a e is marked = (e ∙ ap (λ (y : Answered Step). y.machine) is, subst (Marked (n + 1)) (sym e) marked)
+-- What the loop carries along of a machine is its allocator.
+module _ (n : ℕ) {m : ReplayMachine} where
+  -- it is that of the same machine again
+  pub carried : m ≡ after_markers n → Marked n m
+      → (replaying_with m.cursor.ids Phase.Settled ≡ after_markers n) × Marked n (replaying_with m.cursor.ids Phase.Settled)
+  carried is marked =
+      let again : replaying_with m.cursor.ids Phase.Settled ≡ after_markers n =
+      ap (λ (y : ReplayMachine). replaying_with y.cursor.ids Phase.Settled) is in
+      (again, subst (Marked n) (is ∙ sym again) marked)
+
+  -- so the machine made of it is that one
+  pub remade : {ids : EffectIdAllocator} → m ≡ replaying_with ids Phase.Settled
+      → (replaying_with ids Phase.Settled ≡ after_markers n) × Marked n (replaying_with ids Phase.Settled)
+      → (m ≡ after_markers n) × Marked n m
+  remade by before = (by ∙ before.0, subst (Marked n) (sym by) before.1)
 
 -- one marker more than those to the last
 pub walked_is : {k : Counted} {a : Answered Step} → k ≡ to_last_rule

@@ -4,6 +4,7 @@
 #![tactic(auto)]
 
 ghost use Rattle.std.specs.Prelude.{◌≡◌};
+ghost use Rattle.machine.specs.declared.Phase.TheVariants as Phase;
 ghost use Rattle.test_numbering.specs.Walk.{walk_rule, Marked};
 ghost use Rattle.test_numbering.specs.Turns.{to_last_rule, replaying_with, marks_in, marks_of};
 
@@ -67,42 +68,44 @@ fn walk() -> Walked
     }
 }
 
-// From a fresh machine: the start, then a marker for each number but the last, as long as they are accepted.
+// From a fresh machine: the start, then a marker for each number but the last, as long as they are accepted and the machine replays,
+// settled. Only its allocator is carried along.
 fn walk_to_last() -> Counted
     ensures { (result ≡ to_last_rule) × Marked 4294967295 result.machine }
 {
     let started = ReplayMachine::new(RunId(7)).advance(history::start());
-    let mut machine = started.machine;
+    let mut ids = started.machine.cursor.ids;
     for number in 0..LAST {
+        let machine = replaying(ids);
         let called = machine.advance_marker(EffectSeq(number), GateId(1), 1);
-        let next = called.machine;
         if !marks(called.answer, number) {
             return Counted {
                 machine,
                 markers: number as u64,
             };
         }
-        let State::Replaying = next.cursor.state else {
+        let next = called.machine;
+        let (State::Replaying, Phase::Settled) = (next.cursor.state, next.phase) else {
             return Counted {
                 machine,
                 markers: number as u64,
             };
         };
-        machine = replaying(next.cursor.ids, next.phase);
+        ids = next.cursor.ids;
     }
     Counted {
-        machine,
+        machine: replaying(ids),
         markers: LAST as u64,
     }
 }
 
-// The machine that replays, of its two parts; so the room of an open boundary is not copied. No marker is a failed step.
-fn replaying(ids: EffectIdAllocator, phase: Phase) -> ReplayMachine
-    ensures { result ≡ replaying_with ids phase }
+// The machine that replays, settled, with this allocator; so the room of an open boundary is not copied. No marker is a failed step.
+fn replaying(ids: EffectIdAllocator) -> ReplayMachine
+    ensures { result ≡ replaying_with ids Phase.Settled }
 {
     ReplayMachine {
         cursor: ReplayCursor::at(ids, State::Replaying),
-        phase,
+        phase: Phase::Settled,
     }
 }
 
