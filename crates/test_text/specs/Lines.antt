@@ -1,5 +1,5 @@
 -- What a line of a stored list describes: docs/COMPARISON.md, "The stored lists".
-use Rattle.std.specs.Prelude.{ℕ, zero, suc, ◌+◌, ◌*◌, ◌-◌, Bool, true, false, cond, ◌&&◌, List, [], ◌∷◌, ◌++◌, eqb, ltb, leb, length, drop, get_or}
+use Rattle.std.specs.Prelude.{ℕ, zero, suc, ◌+◌, ◌*◌, ◌-◌, Bool, true, false, cond, ◌&&◌, List, [], ◌∷◌, ◌++◌, eqb, ltb, leb, length, drop, get_or, ◌≤◌}
 use Rattle.test_text.specs.declared.Described.{Described}
 
 -- what stands before the first such byte; all of it where there is none
@@ -90,3 +90,7 @@ line_rule text at room = record {
 -- the room after it: the file's bytes come first, and what is beyond them is as it was
 abbrev pub over : List ℕ → List ℕ → List ℕ
 over bytes room = bytes ++ drop (length bytes) room
+
+-- how much was read fits into its room
+abbrev pub Fits : List ℕ → ℕ → Type 0
+Fits room n = n ≤ length room

@@ -1,13 +1,15 @@
 // Reading a whole input into a room.
-ghost use Rattle.std.specs.Prelude.{◌≤◌, length, IfOk};
+ghost use Rattle.std.specs.Prelude.{IfOk};
+ghost use Rattle.test_text.specs.Lines.{Fits};
 
 use std::io;
 use std::io::Read;
 
 // Reads until the room is full or the input ends, and returns how many bytes were read.
 pub fn read_full(input: &mut impl Read, room: &mut [u8]) -> io::Result<usize>
-    ensures { IfOk result (λ n. n ≤ length room.new) }
+    ensures { IfOk result (Fits room.new) }
 {
+    // A `while`, since each read says how far it came.
     let mut done: usize = 0;
     while done < room.len() {
         let n = input.read(&mut room[done..])?;
