@@ -10,6 +10,7 @@ ghost use Rattle.test_text.specs.Lines.{item_bytes, items_bytes, right, file_of,
 ghost use Rattle.test_text.specs.Steps.{item_length, put};
 
 mod reading;
+
 pub use reading::read_full;
 
 // A line's letter, where the next line begins, and how many bytes of the file there are.
