@@ -13,13 +13,21 @@ use lines::words::Telling;
 // A row has room for the longest path of a folder and three lines.
 pub(crate) type Row = Text<4608>;
 
+// Bytes for which the row has room.
+fn put(row: &mut Row, bytes: &[u8])
+    requires { length row.old + length bytes.now ≤ 4608 }
+    ensures { row.new ≡ row.old ++ bytes.now }
+{
+    row.add(bytes);
+}
+
 // A field, and the byte that ends it.
 fn field(row: &mut Row, text: &[u8], last: u8)
     requires { length row.old + length text.now + 1 ≤ 4608 }
     ensures { row.new ≡ row.old ++ ended text.now last }
 {
-    row.write(text);
-    row.push(last);
+    put(row, text);
+    put(row, &[last]);
 }
 
 // The folder's name, as the first field.
@@ -28,9 +36,9 @@ fn name_field(row: &mut Row, name: &[u8])
     ensures { row.new ≡ row.old ++ ended (cleaned name.now) 9 }
 {
     for byte in name {
-        row.push(file_bytes::names::clean(*byte));
+        put(row, &[file_bytes::names::clean(*byte)]);
     }
-    row.push(b'\t');
+    put(row, b"\t");
 }
 
 fn resume_field(row: &mut Row, answer: Answer)

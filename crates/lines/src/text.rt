@@ -2,7 +2,7 @@
 //
 // Owns: where the bytes stand. Must not own: what they say.
 // Defends: no byte beyond the room is touched, and all behind the text are zeros.
-ghost use Rattle.std.specs.Prelude.{◌≡◌, [], ◌∷◌, ◌++◌, ◌+◌, ◌≤◌, ◌<◌, length};
+ghost use Rattle.std.specs.Prelude.{◌≡◌, [], ◌∷◌, ◌++◌, ◌+◌, ◌≤◌, ◌<◌, length, take};
 
 use std::marker::Model;
 
@@ -48,7 +48,20 @@ impl<const N: usize> Text<N> {
         &self.bytes[..self.len]
     }
 
-    pub fn push(&mut self, byte: u8)
+    // The bytes behind the text; what does not fit is left out.
+    pub fn add(&mut self, more: &[u8])
+        ensures { self.new ≡ take N (self.old ++ more.now) }
+    {
+        let room = N - self.as_bytes().len();
+        if more.len() <= room {
+            self.write(more);
+        } else {
+            self.write(&more[..room]);
+        }
+    }
+
+    // One byte, for which there is room.
+    pub(crate) fn push(&mut self, byte: u8)
         requires { length self.old < N }
         ensures { self.new ≡ self.old ++ byte ∷ [] }
     {
@@ -56,7 +69,8 @@ impl<const N: usize> Text<N> {
         self.len += 1;
     }
 
-    pub fn write(&mut self, more: &[u8])
+    // Bytes for which there is room.
+    pub(crate) fn write(&mut self, more: &[u8])
         requires { length self.old + length more.now ≤ N }
         ensures { self.new ≡ self.old ++ more.now }
     {
