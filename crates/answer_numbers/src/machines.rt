@@ -1,4 +1,4 @@
-// The machine's answers.
+// The machine's answers. The Rust has an enum for the answers of each call, so those of an effect and of a timer are told by two impls.
 ghost use Rattle.std.specs.Prelude.{◌≡◌};
 ghost use Rattle.answer_numbers.specs.MachineTold.{finished_told, replayed_told};
 ghost use Rattle.answer_numbers.specs.MachineTold.{intent_told, resolve_told, timer_intent_told, timer_resolve_told};
