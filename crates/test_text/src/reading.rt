@@ -1,4 +1,4 @@
-// Reading a whole input into a room.
+// Reading a whole input into a room: std's `read_to_end` fills a Vec, and nothing allocates here.
 ghost use Rattle.std.specs.Prelude.{◌≤◌, length, IfOk};
 
 use std::io;
