@@ -68,7 +68,7 @@ fn with_digit(n: u64, b: u8) -> u64 {
     tens.checked_add(digit as u64).unwrap_or(n)
 }
 
-// One call, by its number, with what it writes.
+// One call, by its number in the stored list (docs/COMPARISON.md), with what it writes.
 fn call(rt: &impl Print, now: &mut Current, values: &[u64; 12]) -> io::Result<()> {
     match values[0] {
         0..=2 => successor_call(rt, values),
