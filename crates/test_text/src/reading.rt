@@ -1,11 +1,6 @@
-<<<<<<< HEAD
-// Reading a whole input into a room.
+// Reading a whole input into a room: std's `read_to_end` fills a Vec, and nothing allocates here.
 ghost use Rattle.std.specs.Prelude.{IfOk};
 ghost use Rattle.test_text.specs.Lines.{Fits};
-=======
-// Reading a whole input into a room: std's `read_to_end` fills a Vec, and nothing allocates here.
-ghost use Rattle.std.specs.Prelude.{◌≤◌, length, IfOk};
->>>>>>> b33e501bd6aaf7dbc99d9010ea0274c2d5ad45ff
 
 use std::io;
 use std::io::Read;
