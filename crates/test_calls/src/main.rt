@@ -150,7 +150,7 @@ fn cursor_call(rt: &impl Print, now: &mut Current, n: RecordNumbers) -> io::Resu
     advance_lent(rt, now, n)
 }
 
-// The same record by `cursor_lent::advance`; the list has none that names nothing.
+// The same record by `cursor_lent::advanced`, which lends the cursor to `advance`; the list has none that names nothing.
 fn advance_lent(rt: &impl Print, now: &mut Current, n: RecordNumbers) -> io::Result<()> {
     let body = Body {
         start: n.start as usize,
@@ -159,8 +159,9 @@ fn advance_lent(rt: &impl Print, now: &mut Current, n: RecordNumbers) -> io::Res
     let Some(record) = RecordRef::of(n.kind, n.clock, n.a, n.s, n.d, n.m, body) else {
         return rt.write_all(b"this record names nothing");
     };
-    let answer = cursor_lent::advance(&mut now.lent, record);
-    print!(rt; "{} {} ", Numbers(answer.told()), record.kind().0)?;
+    let advanced = cursor_lent::advanced(now.lent, record);
+    now.lent = advanced.cursor;
+    print!(rt; "{} {} ", Numbers(advanced.answer.told()), record.kind().0)?;
     shown::lent_readers(rt, now.lent)
 }
 
