@@ -2,7 +2,7 @@
 import pathlib, re
 
 ROOT = pathlib.Path(__file__).resolve().parent.parent
-TRAIT_IMPL = re.compile(r"impl(?:<(.*)>)? (\w+) for (.+) {$")
+TRAIT_IMPL = re.compile(r"impl(?:<(.*)>)? (\w+)(?:<(.*)>)? for (.+) {$")
 CLAIM = re.compile(r"# ([A-Za-z_][\w-]*(?:::\w+)*)(?: ([a-z][\w-]*))?: (.+)")
 
 
@@ -19,35 +19,41 @@ def libraries():
 
 
 def impl_name(impl):
-    """An impl of a trait as the logs name it: the words of the type, without the impl's own parameters, then the trait."""
+    """An impl of a trait as the logs name it: the words of the type, without the impl's own parameters, then the trait and the words
+    of its arguments, as `IdsNumbersFromEffectIdAllocator`."""
     own = {parameter.partition(":")[0].strip() for parameter in (impl[1] or "").split(",")}
-    return ("".join(word for word in re.findall(r"\w+", impl[3]) if word not in own) or "Unit") + impl[2]
+    words = lambda text: "".join(word for word in re.findall(r"\w+", text or "") if word not in own)
+    return (words(impl[4]) or "Unit") + impl[2] + words(impl[3])
 
 
 def functions(crate):
     """Each public function of a library, named as its logs name it, with its `ensures` and its file's text. The functions of a
-    trait's impl are public too, where the trait is; their `ensures` is the trait's, said of the impl's ghost items, and these stand in its place."""
+    trait's impl are public too, where the trait is; their `ensures` is the trait's, said of the impl's ghost items, and these stand in its place.
+    The clauses of a type's own functions speak of its view, where it has a `Model`: its ghost items stand with them."""
     found = {}
     inner = {name for file in (crate / "src").glob("*.rt") for name in re.findall(r"^(?:pub\(crate\) )?trait (\w+)", file.read_text(), flags=re.M)}
     for file in sorted((crate / "src").glob("*.rt")):
         text = file.read_text()
         module = "" if file.stem == "lib" else file.stem + "::"
-        owner, ghosts, lines = "", None, text.splitlines()
+        owner, ghosts, lines, models, seen = "", None, text.splitlines(), {}, ""
         for i, line in enumerate(lines):
             impl, fn = re.match(r"impl(?:<.*>)? (\w+)(?:<.*>)? {", line), re.match(r'\s*pub (?:extern "C" )?fn (\w+)', line)
             trait, method = TRAIT_IMPL.match(line), re.match(r"    fn (\w+)", line)
             if impl:
                 owner = (module if re.search(rf"(?:struct|enum) {impl[1]}\b", text) else "") + impl[1] + "::"
+                seen = models.get(impl[1], "")
             elif trait and trait[2] not in inner:
                 body = lines[i:lines.index("}", i)]
                 owner, ghosts = module + impl_name(trait) + "::", "\n".join(l for l in body if l.startswith("    ghost "))
+                if trait[2] == "Model":
+                    models[re.match(r"\w+", trait[4])[0]] = ghosts
             elif line == "}":
-                owner, ghosts = "", None
+                owner, ghosts, seen = "", None, ""
             elif method and ghosts is not None:
                 found[owner + method[1]] = (ghosts, text)
             elif fn:
                 end = next(j for j in range(i, len(lines)) if lines[j].strip() == "{" or re.search(r"\)(?: -> .*)? \{$", lines[j]))
-                ensures = "\n".join(lines[i:end]).partition("ensures")[2]
+                ensures = "\n".join(lines[i:end]).partition("ensures")[2] + seen
                 found[(owner if line.startswith(" ") else module) + fn[1]] = (ensures, text)
     return found
 
