@@ -74,8 +74,10 @@ impl<const N: usize> Text<N> {
         requires { length self.old + length more.now ≤ N }
         ensures { self.new ≡ self.old ++ more.now }
     {
-        for byte in more {
-            self.push(*byte);
-        }
+        let from = self.len;
+        let end = from + more.len();
+        let room = &mut self.bytes[..];
+        room[from..end].copy_from_slice(more);
+        self.len = end;
     }
 }

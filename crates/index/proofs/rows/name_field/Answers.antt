@@ -1,19 +1,13 @@
--- One byte more is shown; the shown name is as long as the name.
-use Rattle.std.proofs.Common.{append_assoc, arith}
-use Rattle.index.proofs.Fields.{shown_length, cleaned_next}
+-- One byte more is shown.
+use Rattle.std.proofs.Common.{arith, ◌<◌, ◌∙◌, length, refl, length-set}
+use Rattle.std.proofs.lemmas.List.{take_more_set}
+use Rattle.index.proofs.Fields.{cleaned_next}
 use Rattle.index.proofs.rows.name_field.Goals as goal
 
-pub put-requires : goal.put-requires
-put-requires c =
-    let row = c.loop-byte in
-    omega (arith, shown_length row.row c.args.row.now c.args.name.now row.byte-index row.invariant (omega arith))
-
-pub loop-byte-preserved : goal.loop-byte-preserved
-loop-byte-preserved c =
-    rw (c.put.ensures, c.loop-byte.invariant, cleaned_next c.args.name.now c.loop-byte.byte-index (omega arith), c.clean.ensures)
-    (simp append_assoc)
-
-pub put-requires-2 : goal.put-requires-2
-put-requires-2 c =
-    let row = c.loop-byte in
-    omega (arith, shown_length row.row c.args.row.now c.args.name.now row.byte-index row.invariant (omega arith))
+pub loop-i-preserved : goal.loop-i-preserved
+loop-i-preserved c =
+    let room : c.loop-i.i < length c.loop-i.shown = omega (arith, c.loop-i.invariant.0) in
+    let next = cleaned_next c.args.name.now c.loop-i.i (omega arith) in (
+      length-set c.loop-i.shown c.loop-i.i c.clean.result ∙ c.loop-i.invariant.0,
+      rw (take_more_set c.loop-i.shown c.loop-i.i c.clean.result room, next, c.clean.ensures, c.loop-i.invariant.1) refl,
+    )
