@@ -6,7 +6,7 @@ use mathlib.Core.List.{List, [], ◌∷◌, ◌++◌}
 use native.Mathlib.Nat.{suc-mul, zero-mul}
 use native.Mathlib.Omega.{arith}
 use borrow.Author.Tests.{ltb-true, lt-ltb, le-ltb, le-leb, lt-leb}
-use Rattle.std.specs.Prelude.{Option, Some, None, unwrap_or}
+use Rattle.std.specs.Prelude.{Option, Some, None, IfSome, unwrap_or}
 use lib.Dec.{eqb, ltb}
 use lib.Seq.{drop-drop}
 use Rattle.std.proofs.lemmas.List.{get_or-drop}
@@ -51,6 +51,14 @@ module _ (high low : ℕ) where
   pub byte_low : hex_digit high ≤ 15 → 16 ≡ hex_digit low → hex_byte high low ≡ 256
   unfolding hex_byte
   byte_low h l = rw (lt-ltb (hex_digit high) 16 (omega arith), le-ltb (hex_digit low) 16 (omega arith))
+
+-- two digits that make a byte, each as it was read
+pub byte_of : (high low : ℕ) (a b : Option ℕ) → unwrap_or a 16 ≡ hex_digit high → unwrap_or b 16 ≡ hex_digit low →
+    IfSome a (λ (d : ℕ). d ≤ 15) → IfSome b (λ (d : ℕ). d ≤ 15) → hex_byte high low < 256 → 16 * unwrap_or a 0 + unwrap_or b 0 ≡ hex_byte high low
+byte_of high low None b e f u v h = absurd (omega (arith, byte_high high low e))
+byte_of high low (Some x) None e f u v h = absurd (omega (arith, byte_low high low (omega (arith, e)) f))
+byte_of high low (Some x) (Some y) e f u v h =
+    let both = byte_both high low (omega (arith, e)) (omega (arith, f)) in rw (e, f) (sym both)
 
 -- pairs at the start of a text
 pub paired_start : (s : List ℕ) → 2 ≤ length s → paired s ≡ (ltb (hex_byte (get_or s 0 0) (get_or s 1 0)) 256 && paired (drop 2 s))

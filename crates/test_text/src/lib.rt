@@ -246,7 +246,9 @@ fn write_digits(digits: &[u8], room: &mut [u8]) -> usize
 {
     let n = digits.len() / 2;
     for i in 0..n {
-        room[i] = hex_byte(digits[2 * i], digits[2 * i + 1]).unwrap();
+        let high = hex_digit(digits[2 * i]).unwrap_or(0);
+        let low = hex_digit(digits[2 * i + 1]).unwrap_or(0);
+        room[i] = 16 * high + low;
     }
     n
 }
