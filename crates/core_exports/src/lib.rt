@@ -185,19 +185,25 @@ pub fn hiskurdo_spec_recorded(clock: u8, deadline: u64) -> Told
 pub fn hiskurdo_admits(capability: u8, spec: SpecNumbers) -> Told
     ensures { result ≡ of_board (λ b. of_spec (λ s. admits_result_told (admission b s)) (spec_named spec)) (capability_of capability) }
 {
-    match (ClockCapability::of(capability as u64), given::spec_of(spec)) {
-        (Some(board), Some(s)) => board.admits(s).told(),
-        _ => names_nothing(),
-    }
+    let Some(board) = ClockCapability::of(capability as u64) else {
+        return names_nothing();
+    };
+    let Some(s) = given::spec_of(spec) else {
+        return names_nothing();
+    };
+    board.admits(s).told()
 }
 
 pub fn hiskurdo_timer_arm(spec: SpecNumbers, capability: u8, now: u64) -> Told
     ensures { result ≡ of_board (λ b. of_spec (λ s. timer_result_told (armed s b now)) (spec_named spec)) (capability_of capability) }
 {
-    match (ClockCapability::of(capability as u64), given::spec_of(spec)) {
-        (Some(board), Some(s)) => Timer::arm(s, board, now).told(),
-        _ => names_nothing(),
-    }
+    let Some(board) = ClockCapability::of(capability as u64) else {
+        return names_nothing();
+    };
+    let Some(s) = given::spec_of(spec) else {
+        return names_nothing();
+    };
+    Timer::arm(s, board, now).told()
 }
 
 pub fn hiskurdo_timer_evaluate(spec: SpecNumbers, armed_at: u64, reading: u64) -> Told
