@@ -1,3 +1,4 @@
+mod After
 mod Decimal
 mod Kept
 mod Right
